@@ -1,0 +1,10 @@
+pub mod Cutting
+pub mod Heads
+pub mod Spelling
+pub mod Singles
+pub mod Places
+pub mod Judging
+pub mod Alphabet
+pub mod Reading
+pub mod Only
+pub mod Verdicts

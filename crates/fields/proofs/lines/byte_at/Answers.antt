@@ -1,0 +1,7 @@
+use mathlib.Core.Path.{sym}
+use native.Mathlib.Omega.{arith}
+use Rattle.std.proofs.shelf.Lists.{getD-past}
+use Rattle.fields.proofs.lines.byte_at.Needs as need
+
+pub returns-else-i-line : need.returns-else-i-line
+returns-else-i-line c = sym (getD-past (c .args .line .now) (c .args .i) 0 (omega arith))

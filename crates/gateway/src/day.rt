@@ -1,0 +1,83 @@
+// A day file carried out, line by line.
+use crate::command::Command;
+use crate::command::MistakeDisplay;
+use crate::command::parse;
+use crate::show::Refusal;
+use crate::show::RefusalDisplay;
+use crate::show::print_fields;
+use fields::faults::check_text;
+use std::alloc::AllocError;
+use std::fs;
+use std::io;
+
+// The program ended before the day did; what stopped it is printed already.
+#[derive(Drop)]
+pub struct Stopped;
+
+pub impl From<io::Error> for Stopped as StoppedFromIo {
+    fn from(_e: io::Error) -> Stopped {
+        Stopped
+    }
+}
+
+pub impl From<AllocError> for Stopped as StoppedFromAlloc {
+    fn from(_e: AllocError) -> Stopped {
+        Stopped
+    }
+}
+
+// Carries out every line, up to the first that is no command.
+pub fn carry_out(rt: &LibcRuntime, day: &str) -> Result<(), Stopped> {
+    for (i, line) in day.lines().enumerate() {
+        if line.is_empty() || line.starts_with('#') {
+            continue;
+        }
+        carry_out_line(rt, i.saturating_add(1), line)?;
+    }
+    Ok(())
+}
+
+fn carry_out_line(rt: &LibcRuntime, number: usize, line: &str) -> Result<(), Stopped> {
+    match parse(line) {
+        Ok(command) => obey(rt, number, line, command),
+        Err(mistake) => {
+            println!(rt, "error: line {number}: {mistake}")?;
+            Err(Stopped)
+        }
+    }
+}
+
+fn obey(rt: &LibcRuntime, number: usize, line: &str, command: Command<'_>) -> Result<(), Stopped> {
+    match command {
+        Command::Fields(file) => {
+            let text = load(rt, number, file)?;
+            print!(rt, "{line}: ")?;
+            show_fields(rt, text.as_slice())?;
+        }
+    }
+    Ok(())
+}
+
+// The bytes of a file that a command names.
+fn load(rt: &LibcRuntime, number: usize, file: &str) -> Result<Vec<u8>, Stopped> {
+    match fs::read(rt, file) {
+        Ok(bytes) => Ok(bytes),
+        Err(_) => {
+            println!(
+                rt,
+                "error: line {number}: the file {file} cannot be read: name a file that is there"
+            )?;
+            Err(Stopped)
+        }
+    }
+}
+
+fn show_fields(rt: &LibcRuntime, text: &[u8]) -> io::Result<()> {
+    match check_text(text) {
+        Ok(()) => print_fields(rt, text),
+        Err(fault) => {
+            let refusal = Refusal(fault);
+            println!(rt, "{refusal}")
+        }
+    }
+}
