@@ -19,7 +19,7 @@ pub struct Qualifier(pub u8, pub u8, pub u8, pub u8);
 
 // What a header says, and how many bytes stand before the value, which begins with the qualifier where there is one.
 #[derive(Clone, Copy)]
-pub(crate) struct Header {
+pub struct Header {
     pub tag: Tag,
     pub qualifier: Option<Qualifier>,
     pub len: usize,

@@ -5,6 +5,8 @@ use std::fmt;
 pub enum Command<'a> {
     // Show the fields of the text in this file.
     Fields(&'a str),
+    // Read the text in this file as the message of this number, into a table of so many entries.
+    Read(u16, &'a str, usize),
 }
 
 // Why a line is no command.
@@ -12,16 +14,60 @@ pub enum Command<'a> {
 pub enum Mistake {
     Unknown,
     OneFile,
+    NumberAndFile,
 }
 
 pub impl fmt::Display for Mistake as MistakeDisplay {
     fn fmt<W: fmt::Write>(&self, f: &mut fmt::Formatter<W>) -> fmt::Result {
         match *self {
             Mistake::Unknown => f.write_str(
-                "no command begins with this word: write `fields FILE`",
+                "no command begins with this word: write `fields` or `read`",
             ),
             Mistake::OneFile => f.write_str("one file name has to follow: write `fields FILE`"),
+            Mistake::NumberAndFile => {
+                f.write_str(
+                    "a message number and one file name have to follow: write `read NUMBER FILE`, or `read NUMBER FILE ENTRIES` for a table of that size",
+                )
+            }
         }
+    }
+}
+
+// The one word that this is.
+fn one_word(rest: &str, mistake: Mistake) -> Result<&str, Mistake> {
+    if rest.is_empty() || rest.contains(' ') {
+        return Err(mistake);
+    }
+    Ok(rest)
+}
+
+// How many entries a field table has where the command does not say.
+const ENTRIES: usize = 1024;
+
+// A number of entries, or a mistake.
+fn entries_in(word: &str, mistake: Mistake) -> Result<usize, Mistake> {
+    match word.parse::<usize>() {
+        Ok(number) => Ok(number),
+        Err(_) => Err(mistake),
+    }
+}
+
+// What stands behind `read`.
+fn parse_read(rest: &str) -> Result<Command<'_>, Mistake> {
+    let mistake = Mistake::NumberAndFile;
+    let Some((first, behind)) = rest.split_once(' ') else {
+        return Err(mistake);
+    };
+    let Ok(message) = first.parse::<u16>() else {
+        return Err(mistake);
+    };
+    match behind.split_once(' ') {
+        Some((file, last)) => Ok(Command::Read(
+            message,
+            one_word(file, mistake)?,
+            entries_in(last, mistake)?,
+        )),
+        None => Ok(Command::Read(message, one_word(behind, mistake)?, ENTRIES)),
     }
 }
 
@@ -29,12 +75,8 @@ pub impl fmt::Display for Mistake as MistakeDisplay {
 pub fn parse(line: &str) -> Result<Command<'_>, Mistake> {
     let (word, rest) = line.split_once(' ').unwrap_or((line, ""));
     match word {
-        "fields" => {
-            if rest.is_empty() || rest.contains(' ') {
-                return Err(Mistake::OneFile);
-            }
-            Ok(Command::Fields(rest))
-        }
+        "fields" => Ok(Command::Fields(one_word(rest, Mistake::OneFile)?)),
+        "read" => parse_read(rest),
         _ => Err(Mistake::Unknown),
     }
 }

@@ -5,7 +5,12 @@ use crate::command::parse;
 use crate::show::Refusal;
 use crate::show::RefusalDisplay;
 use crate::show::print_fields;
+use crate::show::print_table;
 use fields::faults::check_text;
+use reader::faults::ReadingFault;
+use reader::faults::ReadingFaultFromText;
+use reader::reading::read;
+use reader::table::Entry;
 use std::alloc::AllocError;
 use std::fs;
 use std::io;
@@ -54,6 +59,11 @@ fn obey(rt: &LibcRuntime, number: usize, line: &str, command: Command<'_>) -> Re
             print!(rt, "{line}: ")?;
             show_fields(rt, text.as_slice())?;
         }
+        Command::Read(message, file, entries) => {
+            let text = load(rt, number, file)?;
+            print!(rt, "{line}: ")?;
+            show_table(rt, message, text.as_slice(), entries)?;
+        }
     }
     Ok(())
 }
@@ -76,8 +86,25 @@ fn show_fields(rt: &LibcRuntime, text: &[u8]) -> io::Result<()> {
     match check_text(text) {
         Ok(()) => print_fields(rt, text),
         Err(fault) => {
-            let refusal = Refusal(fault);
+            let refusal = Refusal(ReadingFault::from(fault));
             println!(rt, "{refusal}")
         }
     }
+}
+
+fn show_table(rt: &LibcRuntime, message: u16, text: &[u8], entries: usize) -> Result<(), Stopped> {
+    let blank = Entry {
+        row: 0,
+        start: 0,
+        len: 0,
+    };
+    let mut table = vec![in rt.alloc(); blank; entries]?;
+    match read(message, text, &mut table) {
+        Ok(count) => print_table(rt, text, table.as_slice(), count)?,
+        Err(fault) => {
+            let refusal = Refusal(fault);
+            println!(rt, "{refusal}")?;
+        }
+    }
+    Ok(())
 }

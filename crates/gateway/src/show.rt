@@ -1,5 +1,4 @@
 // What the program prints of fields and refusals.
-use fields::faults::TextFault;
 use fields::headers::Qualifier;
 use fields::headers::Tag;
 use fields::walk::Field;
@@ -7,27 +6,37 @@ use fields::walk::Fields;
 use fields::walk::FieldsIterator;
 use fields::walk::field_count;
 use fields::walk::value_of;
+use reader::faults::ReadingFault;
+use reader::table::Entry;
 use std::fmt;
 use std::io;
 
 // A refused reading: number, place, the word of its origin, and the question in plain words.
 #[derive(Clone, Copy)]
-pub struct Refusal(pub TextFault);
+pub struct Refusal(pub ReadingFault);
 
 pub impl fmt::Display for Refusal as RefusalDisplay {
     fn fmt<W: fmt::Write>(&self, f: &mut fmt::Formatter<W>) -> fmt::Result {
-        let question = self.0.question();
+        let number = self.0.number();
         let place = self.0.place();
-        write!(f, "refused {question} ({place}) reading: ")?;
-        match self.0 {
-            TextFault::Length => f.write_str("the text has not from 1 to 10000 bytes"),
-            TextFault::Character(_) => f.write_str(
-                "the byte there is not of set x and not half of a CR LF",
-            ),
-            TextFault::Line(_) => f.write_str(
-                "the line there has no CR LF, is empty, begins with '-', has a wrong header, or is the first and begins no field",
-            ),
+        write!(f, "refused {number} ({place}) reading: ")?;
+        f.write_str(in_words(self.0))
+    }
+}
+
+// What a fault says, in plain words.
+fn in_words(fault: ReadingFault) -> &'static str {
+    match fault {
+        ReadingFault::MessageNumber => "the message number is neither 565 nor 567",
+        ReadingFault::Length => "the text has not from 1 to 10000 bytes",
+        ReadingFault::Character(_) => "the byte there is not of set x and not half of a CR LF",
+        ReadingFault::Line(_) => {
+            "the line there has no CR LF, is empty, begins with '-', has a wrong header, or is the first and begins no field"
         }
+        ReadingFault::Order(_) =>
+            "no message goes on with the field there, or the text ends there too early",
+        ReadingFault::Value(_) => "the value there has not the format of its row",
+        ReadingFault::Table(_) => "the field table has not an entry for each field",
     }
 }
 
@@ -78,4 +87,29 @@ fn qualifier_letters(qualifier: Option<Qualifier>) -> [u8; 4] {
         Some(Qualifier(a, b, c, d)) => [a, b, c, d],
         None => [b'-', b' ', b' ', b' '],
     }
+}
+
+// The field table of a text: how many entries, and then each with its row, start, length and value.
+pub fn print_table(rt: &LibcRuntime, text: &[u8], table: &[Entry], count: usize) -> io::Result<()> {
+    println!(rt, "{count} fields")?;
+    for entry in table.iter().take(count) {
+        print_entry(rt, text, *entry)?;
+    }
+    Ok(())
+}
+
+fn print_entry(rt: &LibcRuntime, text: &[u8], entry: Entry) -> io::Result<()> {
+    let row = entry.row;
+    let start = entry.start;
+    let len = entry.len;
+    let value = Shown(part(text, start, len));
+    println!(rt, "  row {row:>2}  {start:>5}  {len:>3}  {value}")
+}
+
+// The part of a text; less, where the text is shorter.
+fn part(text: &[u8], start: usize, len: usize) -> &[u8] {
+    let start = start.min(text.len());
+    let rest = &text[start..];
+    let len = len.min(rest.len());
+    &rest[0..len]
 }

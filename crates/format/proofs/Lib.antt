@@ -1,0 +1,10 @@
+pub mod Steps
+pub mod NumberLaws
+pub mod Decoding
+pub mod QuantityLaws
+pub mod RunLaws
+pub mod LineLaws
+pub mod FoldLaws
+pub mod VoteLaws
+pub mod IdentifierLaws
+pub mod Examples

@@ -1,0 +1,10 @@
+pub mod Texts
+pub mod Classes
+pub mod Runs
+pub mod Numbers
+pub mod Folding
+pub mod Laws
+pub mod Simple
+pub mod Quantity
+pub mod Vote
+pub mod Identifier

@@ -1,0 +1,9 @@
+pub mod Places
+pub mod Meaning
+pub mod Reading
+pub mod Scans
+pub mod Keyed
+pub mod Finding
+pub mod Judging
+pub mod Alone
+pub mod Testing

@@ -1,0 +1,5 @@
+pub mod Words
+pub mod Tables
+pub mod Codes
+pub mod Standards
+pub mod Lawful
