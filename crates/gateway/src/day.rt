@@ -4,7 +4,10 @@ use crate::command::MistakeDisplay;
 use crate::command::parse;
 use crate::show::Refusal;
 use crate::show::RefusalDisplay;
+use crate::show::WritingRefusal;
+use crate::show::WritingRefusalDisplay;
 use crate::show::print_fields;
+use crate::show::print_filed;
 use crate::show::print_table;
 use fields::faults::check_text;
 use reader::faults::ReadingFault;
@@ -14,6 +17,8 @@ use reader::table::Entry;
 use std::alloc::AllocError;
 use std::fs;
 use std::io;
+use writer::filing::FilingFault;
+use writer::filing::refile;
 
 // The program ended before the day did; what stopped it is printed already.
 #[derive(Drop)]
@@ -64,6 +69,11 @@ fn obey(rt: &LibcRuntime, number: usize, line: &str, command: Command<'_>) -> Re
             print!(rt, "{line}: ")?;
             show_table(rt, message, text.as_slice(), entries)?;
         }
+        Command::Rewrite(message, file, room) => {
+            let text = load(rt, number, file)?;
+            print!(rt, "{line}: ")?;
+            show_filing(rt, message, text.as_slice(), room)?;
+        }
     }
     Ok(())
 }
@@ -103,6 +113,31 @@ fn show_table(rt: &LibcRuntime, message: u16, text: &[u8], entries: usize) -> Re
         Ok(count) => print_table(rt, text, table.as_slice(), count)?,
         Err(fault) => {
             let refusal = Refusal(fault);
+            println!(rt, "{refusal}")?;
+        }
+    }
+    Ok(())
+}
+
+// How many entries the table has into which a text is read to be written again. No text of 10,000 bytes has more fields.
+const ENTRIES: usize = 1024;
+
+fn show_filing(rt: &LibcRuntime, message: u16, text: &[u8], room: usize) -> Result<(), Stopped> {
+    let blank = Entry {
+        row: 0,
+        start: 0,
+        len: 0,
+    };
+    let mut table = vec![in rt.alloc(); blank; ENTRIES]?;
+    let mut out = vec![in rt.alloc(); 0u8; room]?;
+    match refile(message, text, &mut table, &mut out) {
+        Ok(len) => print_filed(rt, text, out.as_slice(), len)?,
+        Err(FilingFault::Reading(fault)) => {
+            let refusal = Refusal(fault);
+            println!(rt, "{refusal}")?;
+        }
+        Err(FilingFault::Writing(fault)) => {
+            let refusal = WritingRefusal(fault);
             println!(rt, "{refusal}")?;
         }
     }

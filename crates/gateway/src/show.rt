@@ -10,6 +10,7 @@ use reader::faults::ReadingFault;
 use reader::table::Entry;
 use std::fmt;
 use std::io;
+use writer::faults::WritingFault;
 
 // A refused reading: number, place, the word of its origin, and the question in plain words.
 #[derive(Clone, Copy)]
@@ -37,6 +38,36 @@ fn in_words(fault: ReadingFault) -> &'static str {
             "no message goes on with the field there, or the text ends there too early",
         ReadingFault::Value(_) => "the value there has not the format of its row",
         ReadingFault::Table(_) => "the field table has not an entry for each field",
+    }
+}
+
+// A refused writing.
+#[derive(Clone, Copy)]
+pub struct WritingRefusal(pub WritingFault);
+
+pub impl fmt::Display for WritingRefusal as WritingRefusalDisplay {
+    fn fmt<W: fmt::Write>(&self, f: &mut fmt::Formatter<W>) -> fmt::Result {
+        let number = self.0.number();
+        let place = self.0.place();
+        write!(f, "refused {number} ({place}) writing: ")?;
+        match self.0 {
+            WritingFault::Output => f.write_str("the output is shorter than the text"),
+            WritingFault::Entry(_) => {
+                f.write_str(
+                    "the entry has no row, or no part with its key inside the bytes, or a field begins in its part",
+                )
+            }
+            _ => f.write_str("the entries do not spell a message"),
+        }
+    }
+}
+
+// What was written, beside the text.
+pub fn print_filed(rt: &LibcRuntime, text: &[u8], out: &[u8], len: usize) -> io::Result<()> {
+    if part(out, 0, len) == text {
+        println!(rt, "{len} bytes, the same")
+    } else {
+        println!(rt, "{len} bytes, not the same")
     }
 }
 

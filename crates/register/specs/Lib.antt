@@ -1,0 +1,13 @@
+pub mod Texts
+pub mod Order
+pub mod Spelling
+pub mod Pairs
+pub mod Sets
+pub mod Places
+pub mod Rising
+pub mod Laws
+pub mod Lists
+pub mod Memos
+pub mod Fronts
+pub mod Runs
+pub mod Transparent
