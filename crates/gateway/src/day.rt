@@ -9,6 +9,7 @@ use crate::show::WritingRefusalDisplay;
 use crate::show::print_fields;
 use crate::show::print_filed;
 use crate::show::print_table;
+use fields::faults::LONGEST;
 use fields::faults::check_text;
 use reader::faults::ReadingFault;
 use reader::faults::ReadingFaultFromText;
@@ -66,16 +67,48 @@ fn obey(rt: &LibcRuntime, number: usize, line: &str, command: Command<'_>) -> Re
         }
         Command::Read(message, file, entries) => {
             let text = load(rt, number, file)?;
+            let mut table = new_table(rt, number, entries)?;
             print!(rt, "{line}: ")?;
-            show_table(rt, message, text.as_slice(), entries)?;
+            show_table(rt, message, text.as_slice(), &mut table)?;
         }
         Command::Rewrite(message, file, room) => {
             let text = load(rt, number, file)?;
+            let mut table = new_table(rt, number, LONGEST)?;
+            let mut out = new_output(rt, number, room)?;
             print!(rt, "{line}: ")?;
-            show_filing(rt, message, text.as_slice(), room)?;
+            show_filing(rt, message, text.as_slice(), &mut table, &mut out)?;
         }
     }
     Ok(())
+}
+
+// A field table of so many entries. A text has no more fields than bytes, so a larger one is cut at the longest text.
+fn new_table(rt: &LibcRuntime, number: usize, entries: usize) -> Result<Vec<Entry>, Stopped> {
+    let blank = Entry {
+        row: 0,
+        start: 0,
+        len: 0,
+    };
+    match vec![in rt.alloc(); blank; entries.min(LONGEST)] {
+        Ok(table) => Ok(table),
+        Err(_) => out_of_memory(rt, number),
+    }
+}
+
+// An output of so many bytes, cut likewise.
+fn new_output(rt: &LibcRuntime, number: usize, room: usize) -> Result<Vec<u8>, Stopped> {
+    match vec![in rt.alloc(); 0u8; room.min(LONGEST)] {
+        Ok(out) => Ok(out),
+        Err(_) => out_of_memory(rt, number),
+    }
+}
+
+fn out_of_memory<T>(rt: &LibcRuntime, number: usize) -> Result<T, Stopped> {
+    println!(
+        rt,
+        "error: line {number}: there is no memory left: free some, and run the day again"
+    )?;
+    Err(Stopped)
 }
 
 // The bytes of a file that a command names.
@@ -102,15 +135,14 @@ fn show_fields(rt: &LibcRuntime, text: &[u8]) -> io::Result<()> {
     }
 }
 
-fn show_table(rt: &LibcRuntime, message: u16, text: &[u8], entries: usize) -> Result<(), Stopped> {
-    let blank = Entry {
-        row: 0,
-        start: 0,
-        len: 0,
-    };
-    let mut table = vec![in rt.alloc(); blank; entries]?;
-    match read(message, text, &mut table) {
-        Ok(count) => print_table(rt, text, table.as_slice(), count)?,
+fn show_table(
+    rt: &LibcRuntime,
+    message: u16,
+    text: &[u8],
+    table: &mut [Entry],
+) -> Result<(), Stopped> {
+    match read(message, text, table) {
+        Ok(count) => print_table(rt, text, table, count)?,
         Err(fault) => {
             let refusal = Refusal(fault);
             println!(rt, "{refusal}")?;
@@ -119,19 +151,15 @@ fn show_table(rt: &LibcRuntime, message: u16, text: &[u8], entries: usize) -> Re
     Ok(())
 }
 
-// How many entries the table has into which a text is read to be written again. No text of 10,000 bytes has more fields.
-const ENTRIES: usize = 1024;
-
-fn show_filing(rt: &LibcRuntime, message: u16, text: &[u8], room: usize) -> Result<(), Stopped> {
-    let blank = Entry {
-        row: 0,
-        start: 0,
-        len: 0,
-    };
-    let mut table = vec![in rt.alloc(); blank; ENTRIES]?;
-    let mut out = vec![in rt.alloc(); 0u8; room]?;
-    match refile(message, text, &mut table, &mut out) {
-        Ok(len) => print_filed(rt, text, out.as_slice(), len)?,
+fn show_filing(
+    rt: &LibcRuntime,
+    message: u16,
+    text: &[u8],
+    table: &mut [Entry],
+    out: &mut [u8],
+) -> Result<(), Stopped> {
+    match refile(message, text, table, out) {
+        Ok(len) => print_filed(rt, text, out, len)?,
         Err(FilingFault::Reading(fault)) => {
             let refusal = Refusal(fault);
             println!(rt, "{refusal}")?;
