@@ -1,7 +1,6 @@
 -- How a text falls into lines. Assumes nothing.
-use Rattle.std.proofs.Common.{◌≡◌, ℕ, zero, suc, ◌+◌, ◌<◌, ◌≤◌, Bool, true, false, cond, not, ◌&&◌, ◌||◌, eqb, ◌⊎◌, List, [], ◌∷◌, ◌++◌, length, take, drop, sym, refl, ap, ◌∙◌, subst, inl, inr, arith}
+use Rattle.std.proofs.Common.{◌≡◌, ℕ, Bool, true, false, cond, not, eqb, List, [], ◌∷◌, ◌++◌, sym, refl, ap, ◌∙◌, arith}
 use Rattle.std.proofs.lemmas.Bool.{eqb-true, and_parts, and_right, and_from, not-true, not_from_false, both_ways}
-use Rattle.fields.specs.Characters.{begins}
 use Rattle.fields.specs.Lines.{Lines, rest, line, ahead, behind, breaks, lines}
 use Rattle.fields.specs.Laws.{unbroken}
 

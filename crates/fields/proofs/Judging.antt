@@ -1,10 +1,10 @@
 -- The first fault is the first. Assumes nothing.
-use Rattle.std.proofs.Common.{◌≡◌, ℕ, zero, suc, ◌+◌, ◌-◌, ◌<◌, ◌≤◌, Bool, true, false, cond, not, ◌&&◌, ◌||◌, List, [], ◌∷◌, ◌++◌, length, Some, None, Option, sym, refl, ap, ◌∙◌, subst, append_assoc, arith, length-append}
+use Rattle.std.proofs.Common.{◌≡◌, ℕ, ◌+◌, Bool, true, false, cond, List, [], ◌∷◌, ◌++◌, length, Some, None, Option, sym, refl, ap, ◌∙◌, subst, append_assoc, arith, length-append}
 use Rattle.std.proofs.lemmas.Bool.{both_ways}
 use Rattle.fields.specs.Lines.{Lines, rest, line, lines}
 use Rattle.fields.specs.Faults.{empty, good_line, line_from, line_fault}
 use Rattle.fields.specs.Laws.{unbroken, Good, joined, still_first, BadFrom, FirstBad, LinesJudged}
-use Rattle.fields.proofs.Cutting.{Split, split, rest_is, joins}
+use Rattle.fields.proofs.Cutting.{split, rest_is, joins}
 
 -- the verdict on what stands at `at`
 abbrev Verdict : Bool → ℕ → List ℕ → Option ℕ → Type 0

@@ -1,16 +1,16 @@
 -- A text has no other fields. Assumes nothing.
-use Rattle.std.proofs.Common.{◌≡◌, ℕ, zero, suc, ◌+◌, ◌-◌, ◌<◌, ◌≤◌, Bool, true, false, cond, not, ◌&&◌, ◌||◌, eqb, ◌⊎◌, List, [], ◌∷◌, ◌++◌, length, take, drop, is_some, Some, None, Option, sym, refl, ap, ◌∙◌, subst, ap₂, inl, inr, append_assoc, add-zero, add_assoc, arith, length-append, length-drop}
+use Rattle.std.proofs.Common.{◌≡◌, ℕ, suc, ◌+◌, ◌-◌, ◌≤◌, Bool, true, false, cond, not, ◌&&◌, eqb, List, [], ◌∷◌, ◌++◌, length, drop, is_some, Some, None, Option, sym, refl, ap, ◌∙◌, subst, ap₂, append_assoc, arith, length-append, length-drop}
 use Rattle.std.proofs.lemmas.List.{length-take-le}
-use Rattle.std.proofs.lemmas.Bool.{eqb-true, leb-true, ne_eqb, and_parts, and_left, and_from, not-true, not_from_false, or_parts, or_cases, cond-false}
+use Rattle.std.proofs.lemmas.Bool.{and_parts, and_left, and_from, not-true, not_from_false, or_parts, cond-false}
 use Rattle.fields.specs.declared.headers.Tag.{Tag}
 use Rattle.fields.specs.declared.headers.Qualifier.{Qualifier}
 use Rattle.fields.specs.declared.headers.Header.{Header}
 use Rattle.fields.specs.declared.walk.Field.{Field}
 use Rattle.fields.specs.Characters.{digit, capital, begins, alphanumeric}
 use Rattle.fields.specs.Lines.{Lines, rest, line, ahead, behind, breaks, tail, lines}
-use Rattle.fields.specs.Headers.{byte, tagged, bare, qualified, header}
-use Rattle.fields.specs.Fields.{continued, opened, fields_from, fields, second, after, value_in, spelled1, spelled}
-use Rattle.fields.specs.Laws.{colon_line, Keyed, Right, AllRight, Gapless}
+use Rattle.fields.specs.Headers.{tagged, qualified, header}
+use Rattle.fields.specs.Fields.{continued, opened, fields_from, second, after, value_in, spelled}
+use Rattle.fields.specs.Laws.{colon_line, Keyed, AllRight, Gapless}
 use Rattle.fields.proofs.Cutting.{behind_ahead, lines_break, lines_on_lem, breaks_in, broken}
 use Rattle.fields.proofs.Heads.{is_digit_not_cr, is_capital_not_cr, is_alphanumeric_not_cr, read_bare, read_qualified}
 use Rattle.fields.proofs.Reading.{aheads, aheads_line}

@@ -1,5 +1,5 @@
 -- Where the fields of a text stand. Assumes nothing.
-use Rattle.std.proofs.Common.{◌≡◌, ℕ, zero, suc, ◌+◌, ◌-◌, ◌<◌, ◌≤◌, Bool, true, false, cond, not, ◌&&◌, ◌||◌, List, [], ◌∷◌, ◌++◌, length, get_or, take, drop, is_some, Some, None, Option, sym, refl, ap, ◌∙◌, subst, append_assoc, add-zero, add_assoc, arith, length-append}
+use Rattle.std.proofs.Common.{◌≡◌, ℕ, suc, ◌+◌, ◌≤◌, Bool, true, false, cond, not, List, [], ◌∷◌, ◌++◌, length, take, drop, is_some, Some, None, Option, sym, refl, ap, ◌∙◌, subst, add-zero, arith, length-append}
 use lib.Seq.{drop-append-add}
 use Rattle.std.proofs.lemmas.Bool.{and_parts}
 use Rattle.fields.specs.declared.headers.Header.{Header}
@@ -7,11 +7,11 @@ use Rattle.fields.specs.declared.walk.Field.{Field}
 use Rattle.fields.specs.Characters.{begins}
 use Rattle.fields.specs.Lines.{Lines, rest, line, lines}
 use Rattle.fields.specs.Headers.{header}
-use Rattle.fields.specs.Fields.{continued, opened, fields_from, fields, left, second, after, value_in, spelled1, spelled}
+use Rattle.fields.specs.Fields.{continued, opened, fields_from, fields, second, spelled}
 use Rattle.fields.specs.Faults.{empty, good_line, line_from, line_fault}
 use Rattle.fields.specs.Laws.{Gapless, Told}
-use Rattle.fields.proofs.Cutting.{Split, split, rest_is}
-use Rattle.fields.proofs.Heads.{Headed, headed}
+use Rattle.fields.proofs.Cutting.{split, rest_is}
+use Rattle.fields.proofs.Heads.{headed}
 use Rattle.fields.proofs.Spelling.{Ended, all_spelled}
 use Rattle.fields.proofs.Singles.{all_right}
 

@@ -1,14 +1,14 @@
 -- The turns of the loops over bytes and lines. Assumes nothing.
-use Rattle.std.proofs.Common.{◌≡◌, ℕ, zero, suc, ◌+◌, ◌-◌, ◌<◌, ◌≤◌, min, Bool, true, false, cond, not, ◌&&◌, ◌||◌, eqb, ◌⊎◌, List, [], ◌∷◌, ◌++◌, length, get_or, take, drop, is_some, Some, None, Option, sym, refl, ap, ◌∙◌, subst, ap₂, inl, inr, append-nil, add_assoc, arith}
+use Rattle.std.proofs.Common.{◌≡◌, ℕ, ◌+◌, ◌-◌, ◌<◌, ◌≤◌, min, Bool, true, false, cond, not, eqb, ◌⊎◌, List, [], ◌∷◌, ◌++◌, length, get_or, take, drop, is_some, Some, None, Option, sym, refl, ap, ◌∙◌, subst, ap₂, inl, inr, append-nil, arith}
 use Rattle.std.proofs.lemmas.List.{at_drop_more, at_drop_all, get_or-drop, get_or_past, take_more, take_all, drop-drop, drop_more, length-take-le, length-drop, take_rest, drop_all}
-use Rattle.std.proofs.lemmas.Bool.{eqb-true, eq-eqb, ne_eqb, and_left, and_right, cond-true, cond-false, cases_lt}
+use Rattle.std.proofs.lemmas.Bool.{ne_eqb, and_left, and_right, cond-true, cond-false, cases_lt}
 use Rattle.fields.specs.declared.headers.Header.{Header}
 use Rattle.fields.specs.declared.walk.Field.{Field}
 use Rattle.fields.specs.Characters.{begins}
-use Rattle.fields.specs.Lines.{Lines, rest, line, ahead, behind, breaks, lines, FirstLine, LineAt}
+use Rattle.fields.specs.Lines.{Lines, rest, line, ahead, breaks, lines, FirstLine, LineAt}
 use Rattle.fields.specs.Headers.{header}
-use Rattle.fields.specs.Fields.{continued, opened, fields_from, left, after, Next}
-use Rattle.fields.specs.Faults.{empty, good_line, line_from, line_fault}
+use Rattle.fields.specs.Fields.{continued, opened, fields_from, left, Next}
+use Rattle.fields.specs.Faults.{empty, good_line, line_from}
 use Rattle.fields.proofs.Cutting.{lines_break, lines_on_lem}
 use Rattle.fields.proofs.Places.{skipped}
 

@@ -1,15 +1,15 @@
 -- Each field of a good text is right, and is one. Assumes nothing.
-use Rattle.std.proofs.Common.{◌≡◌, ℕ, zero, suc, ◌+◌, ◌-◌, ◌<◌, ◌≤◌, Bool, true, false, cond, not, ◌&&◌, ◌||◌, eqb, List, [], ◌∷◌, ◌++◌, length, take, is_some, Some, None, Option, sym, refl, ap, ◌∙◌, subst, append_assoc, arith, length-append}
+use Rattle.std.proofs.Common.{◌≡◌, ℕ, zero, suc, ◌+◌, Bool, true, false, cond, not, ◌&&◌, ◌||◌, eqb, List, [], ◌∷◌, ◌++◌, length, take, is_some, Some, None, Option, sym, refl, ap, ◌∙◌, subst, arith, length-append}
 use lib.Seq.{take-append-add}
-use Rattle.std.proofs.lemmas.Bool.{and_parts, and_left, and_right, not-true, or_from}
+use Rattle.std.proofs.lemmas.Bool.{and_parts, and_right, not-true, or_from}
 use Rattle.fields.specs.declared.headers.Header.{Header}
 use Rattle.fields.specs.Characters.{begins}
 use Rattle.fields.specs.Lines.{Lines, rest, line, lines, breaks, tail}
 use Rattle.fields.specs.Headers.{header}
-use Rattle.fields.specs.Fields.{continued, opened, fields_from, second, value_in}
-use Rattle.fields.specs.Faults.{empty, good_line, line_from}
+use Rattle.fields.specs.Fields.{continued, opened, fields_from, second}
+use Rattle.fields.specs.Faults.{good_line, line_from}
 use Rattle.fields.specs.Laws.{unbroken, colon_line, Keyed, Right, AllRight}
-use Rattle.fields.proofs.Cutting.{Split, split}
+use Rattle.fields.proofs.Cutting.{split}
 use Rattle.fields.proofs.Heads.{Headed, headed}
 use Rattle.fields.proofs.Spelling.{field_at, value_is, regrouped}
 

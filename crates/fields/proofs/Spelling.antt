@@ -1,12 +1,12 @@
 -- The fields of a text spell it. Assumes nothing.
-use Rattle.std.proofs.Common.{◌≡◌, ℕ, zero, suc, ◌+◌, ◌-◌, ◌<◌, ◌≤◌, Bool, true, false, cond, not, ◌&&◌, ◌||◌, List, [], ◌∷◌, ◌++◌, length, get_or, take, drop, is_some, Some, None, Option, sym, refl, ap, ◌∙◌, subst, append_assoc, add_assoc, arith, length-append}
+use Rattle.std.proofs.Common.{◌≡◌, ℕ, suc, ◌+◌, ◌-◌, Bool, true, false, cond, List, [], ◌∷◌, ◌++◌, length, take, drop, is_some, Some, None, Option, sym, refl, ap, ◌∙◌, append_assoc, arith, length-append}
 use lib.Seq.{take-append-add, drop-append-add, drop-append_seam}
 use Rattle.fields.specs.declared.headers.Header.{Header}
 use Rattle.fields.specs.declared.walk.Field.{Field}
 use Rattle.fields.specs.Lines.{Lines, rest, line, lines}
 use Rattle.fields.specs.Headers.{header}
-use Rattle.fields.specs.Fields.{continued, opened, fields_from, fields, second, after, value_in, spelled1, spelled}
-use Rattle.fields.proofs.Cutting.{Split, split, rest_is}
+use Rattle.fields.specs.Fields.{continued, opened, fields_from, second, value_in, spelled1, spelled}
+use Rattle.fields.proofs.Cutting.{split, rest_is}
 use Rattle.fields.proofs.Heads.{Headed, headed}
 
 -- every line is ended

@@ -1,11 +1,11 @@
 -- The verdict on a text is right, is the only right one, and tells its fields. Assumes nothing.
-use Rattle.std.proofs.Common.{◌≡◌, ℕ, ◌≤◌, Bool, true, false, cond, ◌&&◌, leb, List, length, Some, None, Ok, Err, Option, Result, sym, refl, ap, ◌∙◌, subst, arith}
+use Rattle.std.proofs.Common.{◌≡◌, ℕ, Bool, true, false, cond, leb, List, length, Some, None, Ok, Err, Option, Result, sym, refl, ap, ◌∙◌, subst, arith}
 use Rattle.std.proofs.lemmas.Bool.{leb-true, le-leb, and_parts, and_from, both_ways}
 use Rattle.fields.specs.declared.faults.TextFault.{TextFault}
 use Rattle.fields.specs.declared.faults.TextFault.TheVariants.{Length, Character, Line}
 use Rattle.fields.specs.Faults.{good_length, alphabet_fault, line_fault, fault_at, text_verdict}
 use Rattle.fields.specs.Fields.{fields}
-use Rattle.fields.specs.Laws.{Sized, BytesJudged, LinesJudged, TextJudged, Told, Checked}
+use Rattle.fields.specs.Laws.{Sized, BytesJudged, TextJudged, Told, Checked}
 use Rattle.fields.proofs.Alphabet.{bytes_told, bytes_judged, bytes_once}
 use Rattle.fields.proofs.Judging.{lines_told, judged_is}
 use Rattle.fields.proofs.Places.{told}

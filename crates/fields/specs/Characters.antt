@@ -1,5 +1,5 @@
 -- The classes of characters, by their codes. Assumes nothing.
-use Rattle.std.specs.Prelude.{ℕ, Bool, true, false, ◌&&◌, ◌||◌, List, [], ◌∷◌, codes, ◌==◌, nat_le}
+use Rattle.std.specs.Prelude.{ℕ, Bool, false, ◌&&◌, ◌||◌, List, [], ◌∷◌, codes, ◌==◌, nat_le}
 
 abbrev pub between : ℕ → ℕ → ℕ → Bool
 between a b c = nat_le a c && nat_le c b

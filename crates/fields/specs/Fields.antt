@@ -1,6 +1,5 @@
 -- The fields of a text. Assumes nothing.
-use Rattle.std.specs.Prelude.{◌≡◌, ℕ, ◌+◌, ◌-◌, ◌<◌, ◌≤◌, Bool, true, false, cond, List, [], ◌∷◌, ◌++◌, length, take, drop, is_some, Some, None, Option}
-use Rattle.fields.specs.declared.headers.Tag.{Tag}
+use Rattle.std.specs.Prelude.{◌≡◌, ℕ, ◌+◌, ◌-◌, ◌<◌, ◌≤◌, cond, List, [], ◌∷◌, ◌++◌, length, take, drop, is_some, Some, None, Option}
 use Rattle.fields.specs.declared.headers.Qualifier.{Qualifier}
 use Rattle.fields.specs.declared.headers.Header.{Header}
 use Rattle.fields.specs.declared.walk.Field.{Field}

@@ -1,5 +1,5 @@
 -- The header of a field. Assumes nothing.
-use Rattle.std.specs.Prelude.{ℕ, Bool, true, false, cond, ◌&&◌, ◌||◌, List, Some, None, Option, ◌==◌, slice_index}
+use Rattle.std.specs.Prelude.{ℕ, Bool, cond, ◌&&◌, ◌||◌, List, Some, None, Option, ◌==◌, slice_index}
 use Rattle.fields.specs.declared.headers.Tag.{Tag}
 use Rattle.fields.specs.declared.headers.Qualifier.{Qualifier}
 use Rattle.fields.specs.declared.headers.Header.{Header}

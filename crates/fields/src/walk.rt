@@ -1,7 +1,7 @@
 // The fields of a text, one after the other. A line with a header begins a field, any other line continues the one before it.
 ghost use Rattle.std.specs.Prelude.{◌≡◌, ℕ, ◌+◌, ◌≤◌, [], ◌∷◌, length, take, drop, MatchOption};
 ghost use Rattle.fields.specs.Lines.{lines};
-ghost use Rattle.fields.specs.Fields.{continued as continuation, left as from, Next, value_in, fields as all-fields};
+ghost use Rattle.fields.specs.Fields.{continued as continuation, left as from, Next, value_in, fields as all_fields};
 ghost use Rattle.fields.specs.Coming.{coming};
 ghost use Rattle.std.specs.Iterator.{at_most};
 
@@ -97,7 +97,7 @@ impl<'a> Fields<'a> {
     }
 
     pub fn of(text: &'a [u8]) -> Fields<'a>
-        ensures all { coming result ≡ all-fields text.now }
+        ensures all { coming result ≡ all_fields text.now }
         ensures few { length (coming result) ≤ length text.now }
     {
         Fields::from_place(text, 0)
@@ -120,7 +120,7 @@ impl Iterator for Fields<'_> {
 
 // How many fields a text has.
 pub fn field_count(text: &[u8]) -> usize
-    ensures { result ≡ length (all-fields text.now) }
+    ensures { result ≡ length (all_fields text.now) }
 {
     let mut count = 0;
     for _field in Fields::of(text) {

@@ -1,4 +1,4 @@
-use Rattle.std.proofs.Common.{◌≡◌, sym, ◌∙◌}
+use Rattle.std.proofs.Common.{sym, ◌∙◌}
 use Rattle.fields.proofs.Reading.{continued_end}
 use Rattle.fields.proofs.walk.continued_to.Goals as goal
 

@@ -5,4 +5,4 @@ use Rattle.fields.proofs.walk.field_count.Given as goal
 
 -- those counted and those to come are all
 abbrev pub invariant-loop-field : goal.invariant-loop-field
-invariant-loop-field l = l.count + length (coming l.-field-iterator) ≡ length (fields l.text)
+invariant-loop-field l = l.count + length (coming l._field-iterator) ≡ length (fields l.text)
