@@ -1,5 +1,5 @@
 -- The test of a sheet's law is right. Assumes nothing.
-use Rattle.std.proofs.Common.{◌≡◌, ℕ, zero, suc, ◌+◌, true, false, not, ◌&&◌, ltb, leb, List, [], ◌∷◌, length, Some, None, Option, sym, refl, ap, ◌∙◌, inl, inr, arith}
+use Rattle.std.proofs.Common.{◌≡◌, ℕ, zero, suc, ◌+◌, true, not, ◌&&◌, ltb, leb, List, [], ◌∷◌, length, Some, None, Option, sym, refl, ap, ◌∙◌, inl, inr, arith}
 use Rattle.std.proofs.lemmas.Bool.{and_from, or_cases, or_left, or_right, not_from_false, false≢true, cases_Bool, le-leb, lt-ltb}
 use Rattle.std.proofs.lemmas.Slice.Eq.{bytes_eq-Decides}
 use Rattle.std.specs.Str.{bytes_eq}
@@ -14,7 +14,7 @@ use Rattle.sheet.specs.Keys.{Key, row_has, find_row}
 use Rattle.sheet.specs.Keys.Key.{names}
 use Rattle.sheet.specs.Lawful.{paired, under, field_keys, keys_in, has_one, used, apart, possible, all_possible, rows_possible, lawful}
 use Rattle.sheet.specs.Laws.{RowAt, Found, Nested, Law, LawTested}
-use Rattle.sheet.proofs.Alone.{had as had-by-one}
+use Rattle.sheet.proofs.Alone.{had as had_by_one}
 use Rattle.sheet.proofs.Reading.{layers_of}
 use Rattle.sheet.proofs.Keyed.{In, tag_self, qualifier_self, law_few, law_pairs, law_possible, only_row, found_row, possible_row}
 
@@ -123,4 +123,4 @@ whole rows l =
     (and_from (apart rows) (rows_possible rows) (apart_rows rows l.single) (rows_possible_lem rows l.possible_all)))
 
 pub tested : LawTested
-tested = record { right = right; whole = whole; had = had-by-one }
+tested = record { right = right; whole = whole; had = had_by_one }

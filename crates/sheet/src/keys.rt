@@ -13,8 +13,8 @@ pub fn find_row<S: Sheet>(
     qualifier: Option<Qualifier>,
     value: &[u8],
 ) -> Option<usize>
-    ensures value { result ≡ find_row (rows sheet.now) (key_as tag qualifier value.now) }
-    ensures found { Found (rows sheet.now) (key_as tag qualifier value.now) result }
+    ensures value { result ≡ find_row (S.rows sheet.now) (key_as tag qualifier value.now) }
+    ensures found { Found (S.rows sheet.now) (key_as tag qualifier value.now) result }
     ensures law { LawTested }
 {
     let mut i = 0;

@@ -1,4 +1,6 @@
 // Sheets: the layout of a message as a list of rows, which field is of which row, and in which order the rows may stand.
+#![tactic(auto)]
+
 pub mod interface;
 pub mod keys;
 pub mod marks;

@@ -18,7 +18,7 @@ fn next_row<S: Sheet>(
     qualifier: Option<Qualifier>,
     value: &[u8],
 ) -> Option<usize>
-    ensures { result ≡ next_row (rows sheet.now) last (key_as tag qualifier value.now) }
+    ensures { result ≡ next_row (S.rows sheet.now) last (key_as tag qualifier value.now) }
 {
     let row = find_row(sheet, tag, qualifier, value)?;
     if follows(sheet, last, row) {
@@ -30,7 +30,7 @@ fn next_row<S: Sheet>(
 
 // The start of the first field that has no row which may come next; else the length of the text, where it may not end there.
 fn first_fault<S: Sheet>(sheet: &S, text: &[u8]) -> Option<usize>
-    ensures { result ≡ order_fault (rows sheet.now) text.now }
+    ensures { result ≡ order_fault (S.rows sheet.now) text.now }
 {
     let mut last = None;
     for field in Fields::of(text) {
@@ -55,10 +55,10 @@ fn first_fault<S: Sheet>(sheet: &S, text: &[u8]) -> Option<usize>
 // What is wrong with the order of a text's fields, by their keys. Nothing, where it is a sentence of the sheet; else the start of the first
 // field with which no sentence goes on; else the length of the text, where it ends too early.
 pub fn order_fault<S: Sheet>(sheet: &S, text: &[u8]) -> Option<usize>
-    ensures value { result ≡ order_fault (rows sheet.now) text.now }
-    ensures judged { KeyJudged (rows sheet.now) text.now result }
-    ensures only { (s : Maybe ℕ) → KeyJudged (rows sheet.now) text.now s → s ≡ result }
-    ensures reads { ReadsSentences (rows sheet.now) }
+    ensures value { result ≡ order_fault (S.rows sheet.now) text.now }
+    ensures judged { KeyJudged (S.rows sheet.now) text.now result }
+    ensures only { (s : Maybe ℕ) → KeyJudged (S.rows sheet.now) text.now s → s ≡ result }
+    ensures reads { ReadsSentences (S.rows sheet.now) }
 {
     first_fault(sheet, text)
 }

@@ -1,6 +1,6 @@
 // The order of rows: which row may follow which, and where a text may end.
 ghost use Rattle.std.specs.Prelude.{◌≡◌, ◌<◌, drop};
-ghost use Rattle.sheet.specs.Steps.{closing, ends, passing, repeats, scan, follows as may-follow, may_end};
+ghost use Rattle.sheet.specs.Steps.{closing, ends, passing, repeats, scan, follows as may_follow, may_end};
 
 use crate::interface::Sheet;
 use crate::rows::Row;
@@ -32,7 +32,7 @@ fn passed(depth: usize, row: Row) -> Option<usize>
 // Can row `next` come next, from the place before row `from`? What may be missed is passed over; a closing row stops the search.
 // The end of the text is the row behind the last.
 fn reaches<S: Sheet>(sheet: &S, from: usize, next: usize) -> bool
-    ensures { result ≡ scan (rows sheet.now) from next }
+    ensures { result ≡ scan (S.rows sheet.now) from next }
 {
     let mut depth = 0;
     let mut i = from;
@@ -51,7 +51,7 @@ fn reaches<S: Sheet>(sheet: &S, from: usize, next: usize) -> bool
 
 // The closing row of the block whose rows begin at `from`.
 fn block_end<S: Sheet>(sheet: &S, from: usize) -> usize
-    ensures { result ≡ closing 0 (drop from (rows sheet.now)) from }
+    ensures { result ≡ closing 0 (drop from (S.rows sheet.now)) from }
 {
     let mut depth: usize = 0;
     let mut i = from;
@@ -73,7 +73,7 @@ fn block_end<S: Sheet>(sheet: &S, from: usize) -> usize
 
 // The last row of the part that row `first` begins: the closing row of a block, else the row itself.
 fn part_end<S: Sheet>(sheet: &S, first: usize) -> usize
-    ensures { result ≡ ends (drop first (rows sheet.now)) first }
+    ensures { result ≡ ends (drop first (S.rows sheet.now)) first }
 {
     let Some(row) = sheet.row(first) else {
         return first;
@@ -87,7 +87,7 @@ fn part_end<S: Sheet>(sheet: &S, first: usize) -> usize
 
 // May the part that row `first` begins stand more than once?
 fn part_repeats<S: Sheet>(sheet: &S, first: usize) -> bool
-    ensures { result ≡ repeats (drop first (rows sheet.now)) }
+    ensures { result ≡ repeats (drop first (S.rows sheet.now)) }
 {
     let Some(row) = sheet.row(first) else {
         return false;
@@ -101,7 +101,7 @@ fn part_repeats<S: Sheet>(sheet: &S, first: usize) -> bool
 
 // May row `next` come next, where `last` is the row read last, if any? No where either is not a row.
 pub fn follows<S: Sheet>(sheet: &S, last: Option<usize>, next: usize) -> bool
-    ensures { result ≡ may-follow (rows sheet.now) last next }
+    ensures { result ≡ may_follow (S.rows sheet.now) last next }
 {
     let len = sheet.len();
     if next >= len {
@@ -121,7 +121,7 @@ pub fn follows<S: Sheet>(sheet: &S, last: Option<usize>, next: usize) -> bool
 
 // May the text end where `last` is the row read last, if any?
 pub fn may_end<S: Sheet>(sheet: &S, last: Option<usize>) -> bool
-    ensures { result ≡ may_end (rows sheet.now) last }
+    ensures { result ≡ may_end (S.rows sheet.now) last }
 {
     let len = sheet.len();
     match last {

@@ -4,8 +4,8 @@ use Rattle.sheet.proofs.Scans.{closing_here, closing_open, closing_close, closin
 use Rattle.sheet.proofs.steps.block_end.Goals as goal
 use Rattle.sheet.proofs.steps.block_end.Goals.{in-Open, in-Close+else-depth-eq0, in-Field}
 
-pub overflow-add-depth : goal.overflow-add-depth
-overflow-add-depth g c =
+pub overflow_add-depth : goal.overflow_add-depth
+overflow_add-depth g c =
     let s = row_small (g.S.Sheet.rows c.args.sheet.now) (g.S.Sheet.lawful c.args.sheet.now) c.loop-row.i c.in-Some.row c.in-Some.ensures in
     omega (arith, c.loop-row.invariant.1)
 
@@ -15,8 +15,8 @@ returns-then-depth-eq0 g c =
     ∙ closing_here (g.S.Sheet.rows c.args.sheet.now) c.loop-row.depth c.loop-row.i c.in-Some.row _ c.in-Some.ensures c.in-Close.is
     c.if-depth-eq0.true)
 
-pub overflow-add-i : goal.overflow-add-i
-overflow-add-i g c =
+pub overflow_add-i : goal.overflow_add-i
+overflow_add-i g c =
     let s = row_small (g.S.Sheet.rows c.args.sheet.now) (g.S.Sheet.lawful c.args.sheet.now) c.loop-row.i c.in-Some.row c.in-Some.ensures in
     omega arith
 
@@ -42,4 +42,4 @@ loop-row-preserved g c =
 
 pub returns : goal.returns
 returns g c =
-    sym (c.loop-row.invariant.0 ∙ closing_off (g.S.Sheet.rows c.args.sheet.now) c.loop-row.depth c.loop-row.i c.in-default.ensures)
+    sym (c.loop-row.invariant.0 ∙ closing_off (g.S.Sheet.rows c.args.sheet.now) c.loop-row.depth c.loop-row.i c.in_default.ensures)

@@ -7,13 +7,13 @@ returns-then-reaches g c =
     c.if-reaches.true
     ∙ follows_on (g.S.Sheet.rows c.args.sheet.now) _ c.in-Some.row _ c.in-Some.is (omega arith) (omega arith) c.if-reaches.ensures
 
-pub returns-then-part-repeats : goal.returns-then-part-repeats
-returns-then-part-repeats g c =
+pub returns-then-part_repeats : goal.returns-then-part_repeats
+returns-then-part_repeats g c =
     follows_again (g.S.Sheet.rows c.args.sheet.now) _ c.in-Some.row _ _ c.in-Some.is (omega arith) (omega arith) c.if-reaches.ensures
-    c.if-part-repeats.ensures c.part-end.ensures
+    c.if-part_repeats.ensures c.part_end.ensures
 
-pub returns-else-part-repeats : goal.returns-else-part-repeats
-returns-else-part-repeats g c =
-    c.if-part-repeats.false
+pub returns-else-part_repeats : goal.returns-else-part_repeats
+returns-else-part_repeats g c =
+    c.if-part_repeats.false
     ∙ follows_not (g.S.Sheet.rows c.args.sheet.now) _ c.in-Some.row _ c.in-Some.is (omega arith) (omega arith) c.if-reaches.ensures
-    c.if-part-repeats.ensures
+    c.if-part_repeats.ensures

@@ -14,14 +14,14 @@ passed-requires g c =
     let s = row_small (g.S.Sheet.rows c.args.sheet.now) (g.S.Sheet.lawful c.args.sheet.now) c.loop-row.i c.in-Some.row c.in-Some.ensures in
     omega (arith, c.loop-row.invariant.1)
 
-pub returns-in-default-passed : goal.returns-in-default-passed
-returns-in-default-passed g c =
+pub returns-in_default-passed : goal.returns-in_default-passed
+returns-in_default-passed g c =
     sym (c.loop-row.invariant.0
     ∙ reach_stops (g.S.Sheet.rows c.args.sheet.now) c.loop-row.depth c.loop-row.i c.args.next c.in-Some.row c.in-Some.ensures
-    (λ (p : c.loop-row.depth ≡ 0) (q : c.loop-row.i ≡ c.args.next). omega (arith, c.else-depth-eq0.either)) c.in-default-passed.ensures)
+    (λ (p : c.loop-row.depth ≡ 0) (q : c.loop-row.i ≡ c.args.next). omega (arith, c.else-depth-eq0.either)) c.in_default-passed.ensures)
 
-pub overflow-add-i : goal.overflow-add-i
-overflow-add-i g c =
+pub overflow_add-i : goal.overflow_add-i
+overflow_add-i g c =
     let s = row_small (g.S.Sheet.rows c.args.sheet.now) (g.S.Sheet.lawful c.args.sheet.now) c.loop-row.i c.in-Some.row c.in-Some.ensures in
     omega arith
 
@@ -38,4 +38,4 @@ loop-row-preserved g c = (
 
 pub returns : goal.returns
 returns g c =
-    sym (c.loop-row.invariant.0 ∙ reach_off (g.S.Sheet.rows c.args.sheet.now) c.loop-row.depth c.loop-row.i c.args.next c.in-default.ensures)
+    sym (c.loop-row.invariant.0 ∙ reach_off (g.S.Sheet.rows c.args.sheet.now) c.loop-row.depth c.loop-row.i c.args.next c.in_default.ensures)
