@@ -1,6 +1,6 @@
 // The sheets of the standard's two messages, chosen by the message number.
 ghost use Rattle.std.specs.Prelude.{◌≡◌};
-ghost use Rattle.sheets.specs.Standards.{sheet_of, rows_of, codes_of, allowed as may-stand};
+ghost use Rattle.sheets.specs.Standards.{sheet_of, rows_of, codes_of, allowed as may_stand};
 ghost use Rattle.sheets.specs.Lawful.{all_lawful};
 
 use crate::codes::{INSTRUCTION_FUNCTIONS, STATUS_FUNCTIONS, is_among, stands_under};
@@ -32,7 +32,7 @@ impl StandardSheet {
 
     // May the code stand under this qualifier, or under none?
     fn allows(self, qualifier: Option<Qualifier>, code: &[u8]) -> bool
-        ensures { result ≡ may-stand self qualifier code.now }
+        ensures { result ≡ may_stand self qualifier code.now }
     {
         match qualifier {
             Some(qualifier) => stands_under(qualifier, code),

@@ -4,11 +4,11 @@ use Rattle.sheets.proofs.codes.is_among.Goals as goal
 
 pub returns-then-is : goal.returns-then-is
 returns-then-is c =
-    sym (c.loop-one.invariant ∙ among_at c.args.codes.now c.args.code.now c.loop-one.one_Index _ true c.loop-one-test.true c.if-is.ensures)
+    sym (c.loop-one.invariant ∙ among_at c.args.codes.now c.args.code.now c.loop-one.one-index _ true c.loop-one-test.true c.if-is.ensures)
 
 pub loop-one-preserved : goal.loop-one-preserved
 loop-one-preserved c =
-    c.loop-one.invariant ∙ among_at c.args.codes.now c.args.code.now c.loop-one.one_Index _ false c.loop-one-test.true c.if-is.ensures
+    c.loop-one.invariant ∙ among_at c.args.codes.now c.args.code.now c.loop-one.one-index _ false c.loop-one-test.true c.if-is.ensures
 
 pub returns : goal.returns
-returns c = sym (c.loop-one.invariant ∙ among_off c.args.codes.now c.args.code.now c.loop-one.one_Index c.loop-one-test.false)
+returns c = sym (c.loop-one.invariant ∙ among_off c.args.codes.now c.args.code.now c.loop-one.one-index c.loop-one-test.false)

@@ -5,4 +5,4 @@ use Rattle.sheets.proofs.standard.StandardSheet.allows.Goals as goal
 
 pub returns-in-Some : goal.returns-in-Some
 returns-in-Some c =
-    c.stands-under.ensures ∙ ap (λ (o : Option Qualifier). allowed c.args.self o c.args.code.now) (sym c.in-Some.is)
+    c.stands_under.ensures ∙ ap (λ (o : Option Qualifier). allowed c.args.self o c.args.code.now) (sym c.in-Some.is)
