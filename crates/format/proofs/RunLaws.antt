@@ -1,7 +1,7 @@
 -- Characters of a class at the front of a text, ISINs and owners. Assumes nothing.
 use Rattle.std.proofs.Common.{◌≡◌, ℕ, zero, suc, ◌-◌, ◌<◌, ◌≤◌, Bool, true, false, cond, ◌&&◌, ◌||◌, leb, List, [], ◌∷◌, ◌++◌, length, IfSome, Some, None, codes, Decides, Option, sym, refl, ap, ◌∙◌, subst, append-nil, arith}
 use Rattle.std.proofs.lemmas.Bool.{and_from, and_parts, le-leb, leb-true, cond-true, cond-false, both_ways, or_left}
-use Rattle.std.specs.List.{AllByRecursion as All}
+use Rattle.std.specs.List.{AllByRecursion}
 use Rattle.fields.specs.Characters.{alphanumeric, set_x}
 use Rattle.format.specs.Texts.{or_false, after_word, is_end}
 use Rattle.format.specs.Runs.{Of, front, back, after_some, is_of}
@@ -15,7 +15,7 @@ Stops k [] = Unit {0}
 Stops k (c ∷ s) = k c ≡ false
 
 abbrev AllIn : (ℕ → Bool) → List ℕ → Type 0
-AllIn k l = All (λ c. k c ≡ true) l
+AllIn k l = AllByRecursion (λ c. k c ≡ true) l
 
 front_back : (k : ℕ → Bool) (s : List ℕ) → AllIn k (front k s) × (s ≡ front k s ++ back k s)
 front_back k [] = (tt, refl)
@@ -88,7 +88,7 @@ lines_to (suc k) v q = by (after_some set_x 1 35 v) (some_right set_x 1 35 v) (l
     by (Some []) h rest q = (h.0 ∷ [], omega arith, omega arith, (h.1, tt), h.2 ∙ append-nil h.0)
     by (Some (c ∷ t)) h rest q = after h.0 (c ∷ t) h.1 h.2 (after_word (13 ∷ 10 ∷ []) (c ∷ t)) (word_right (13 ∷ 10 ∷ []) (c ∷ t)) rest q
 
-lines_from : (k : ℕ) (ls : List (List ℕ)) → 1 ≤ length ls → length ls ≤ k → All (Of set_x 1 35) ls → is_lines k (lines ls) ≡ true
+lines_from : (k : ℕ) (ls : List (List ℕ)) → 1 ≤ length ls → length ls ≤ k → AllByRecursion (Of set_x 1 35) ls → is_lines k (lines ls) ≡ true
 lines_from k [] a b h = absurd (omega arith)
 lines_from zero (l ∷ ls) a b h = absurd (omega arith)
 lines_from (suc k) (l ∷ []) a b h =

@@ -1,5 +1,5 @@
 -- A vote that is read is one that is spelled, and back. Assumes nothing.
-use Rattle.std.proofs.Common.{◌≡◌, ℕ, ◌+◌, ◌^◌, ◌<◌, ◌≤◌, Bool, true, false, cond, ◌&&◌, eqb, List, [], ◌∷◌, ◌++◌, get_or, IfSome, Some, None, codes, decimal, Option, sym, refl, ap, ◌∙◌, subst, append-nil, arith}
+use Rattle.std.proofs.Common.{◌≡◌, ℕ, ◌^◌, ◌<◌, ◌≤◌, Bool, true, false, cond, List, [], ◌∷◌, ◌++◌, get_or, IfSome, Some, None, codes, decimal, Option, sym, refl, ap, ◌∙◌, subst, append-nil, arith}
 use Rattle.std.proofs.lemmas.Fmt.{first_decimal}
 use Rattle.std.proofs.lemmas.Bool.{ne_eqb, cond-true, cond-false}
 use Rattle.format.specs.declared.votes.VoteKind.{VoteKind}
@@ -8,7 +8,7 @@ use Rattle.format.specs.declared.votes.VoteAnswer.{VoteAnswer}
 use Rattle.format.specs.declared.votes.VoteAnswer.TheVariants.{For, Against, Abstain}
 use Rattle.format.specs.declared.votes.VoteText.{VoteText}
 use Rattle.fields.specs.Characters.{begins}
-use Rattle.format.specs.Texts.{and_then, or_else, after_word, stands_for, is_end}
+use Rattle.format.specs.Texts.{or_else, after_word, stands_for}
 use Rattle.format.specs.Numbers.{InDigits, number}
 use Rattle.format.specs.Folding.{folded, unfolded, is_folded}
 use Rattle.format.specs.Vote.{InCandidate, InVote, candidate_text, kind_text, answer_text, vote_flat, vote_spelled, given, read_candidate, subject_done, subject_candidate, subject_point, subject_number, read_subject, read_kind, read_answer, cast_done, cast_number, read_cast, vote_done, vote_cast, vote_answer, vote_kind, read_flat, read_vote}

@@ -1,11 +1,11 @@
 -- How many characters of one class stand at the front of a text. Assumes nothing.
-use Rattle.std.specs.Prelude.{◌≡◌, ℕ, ◌≤◌, Bool, true, false, cond, ◌&&◌, List, [], ◌∷◌, length, Some, None, Option, nat_le}
-use Rattle.std.specs.List.{AllByRecursion as All}
+use Rattle.std.specs.Prelude.{◌≡◌, ℕ, ◌≤◌, Bool, true, cond, ◌&&◌, List, [], ◌∷◌, length, Some, None, Option, nat_le}
+use Rattle.std.specs.List.{AllByRecursion}
 use Rattle.format.specs.Texts.{or_false, is_end}
 
 -- from lo to hi characters, all of the class
 abbrev pub Of : (ℕ → Bool) → ℕ → ℕ → List ℕ → Type 0
-Of k lo hi v = All (λ c. k c ≡ true) v × (lo ≤ length v) × (length v ≤ hi)
+Of k lo hi v = AllByRecursion (λ c. k c ≡ true) v × (lo ≤ length v) × (length v ≤ hi)
 
 -- the longest front of characters of the class, and what stands behind it
 abbrev pub front : (ℕ → Bool) → List ℕ → List ℕ

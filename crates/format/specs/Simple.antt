@@ -1,7 +1,7 @@
 -- The formats that are only told from others: references, accounts, times, options, ISINs and owners. Assumes nothing.
 use Rattle.std.specs.Prelude.{◌≡◌, ℕ, zero, suc, ◌≤◌, Bool, false, ◌||◌, List, [], ◌∷◌, ◌++◌, length, codes}
 use Rattle.fields.specs.Characters.{digit, alphanumeric, set_x}
-use Rattle.std.specs.List.{AllByRecursion as All}
+use Rattle.std.specs.List.{AllByRecursion}
 use Rattle.format.specs.Folding.{lines}
 use Rattle.format.specs.Runs.{Of, is_of, after_some}
 use Rattle.format.specs.Texts.{or_false, after_word, is_end}
@@ -43,7 +43,7 @@ is_lines zero s = false
 is_lines (suc k) s = or_false (after_some set_x 1 35 s) (lines_on (is_lines k))
 
 abbrev pub Lines : ℕ → List ℕ → Type 0
-Lines k v = (ls : List (List ℕ)) × (1 ≤ length ls) × (length ls ≤ k) × All (Of set_x 1 35) ls × (v ≡ lines ls)
+Lines k v = (ls : List (List ℕ)) × (1 ≤ length ls) × (length ls ≤ k) × AllByRecursion (Of set_x 1 35) ls × (v ≡ lines ls)
 
 -- an owner: 1 to 10 lines of 1 to 35 characters of set x, with CR LF between them
 abbrev pub is_owner : List ℕ → Bool

@@ -1,5 +1,5 @@
 -- A vote: how it is spelled, and how it is read. Assumes nothing.
-use Rattle.std.specs.Prelude.{ℕ, Bool, false, cond, List, [], ◌∷◌, ◌++◌, Some, None, codes, decimal, Option}
+use Rattle.std.specs.Prelude.{ℕ, cond, List, [], ◌++◌, Some, None, codes, decimal, Option}
 use Rattle.fields.specs.Characters.{begins}
 use Rattle.format.specs.declared.votes.VoteKind.{VoteKind}
 use Rattle.format.specs.declared.votes.VoteKind.TheVariants.{Ordinary, Cumulative}

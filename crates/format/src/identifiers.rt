@@ -20,7 +20,7 @@ pub struct IdentifierParts {
 
 // The capital letter at `from`, and the place behind it.
 fn capital<T: Text>(text: &T, from: usize) -> Option<(u8, usize)>
-    ensures { placed (chars text.now) result ≡ read_capital (drop from (chars text.now)) }
+    ensures { placed (T.chars text.now) result ≡ read_capital (drop from (T.chars text.now)) }
 {
     let Some(c) = text.char_at(from) else {
         return None;
@@ -34,7 +34,7 @@ fn capital<T: Text>(text: &T, from: usize) -> Option<(u8, usize)>
 
 // Two capital letters.
 fn two<T: Text>(text: &T, from: usize) -> Option<([u8; 2], usize)>
-    ensures { placed (chars text.now) result ≡ read_two (drop from (chars text.now)) }
+    ensures { placed (T.chars text.now) result ≡ read_two (drop from (T.chars text.now)) }
 {
     let (a, first) = capital(text, from)?;
     let (b, second) = capital(text, first)?;
@@ -43,7 +43,7 @@ fn two<T: Text>(text: &T, from: usize) -> Option<([u8; 2], usize)>
 
 // Four capital letters.
 fn four<T: Text>(text: &T, from: usize) -> Option<([u8; 4], usize)>
-    ensures { placed (chars text.now) result ≡ read_four (drop from (chars text.now)) }
+    ensures { placed (T.chars text.now) result ≡ read_four (drop from (T.chars text.now)) }
 {
     let (a, first) = capital(text, from)?;
     let (b, second) = capital(text, first)?;
@@ -54,7 +54,7 @@ fn four<T: Text>(text: &T, from: usize) -> Option<([u8; 4], usize)>
 
 // Whether the issuer NSDR is named at `from`, before a slash, and the place behind that.
 fn issuer<T: Text>(text: &T, from: usize) -> Option<(bool, usize)>
-    ensures { placed (chars text.now) result ≡ read_issuer (drop from (chars text.now)) }
+    ensures { placed (T.chars text.now) result ≡ read_issuer (drop from (T.chars text.now)) }
 {
     if let Some(at) = after_word(text, from, b"NSDR/") {
         return Some((true, at));
@@ -65,7 +65,7 @@ fn issuer<T: Text>(text: &T, from: usize) -> Option<(bool, usize)>
 
 // The parts of a text that is an identifier.
 fn identifier_of<T: Text>(text: &T) -> Option<IdentifierParts>
-    ensures { option_map (meant (chars text.now)) result ≡ identifier_in (chars text.now) }
+    ensures { option_map (meant (T.chars text.now)) result ≡ identifier_in (T.chars text.now) }
 {
     let named = after_word(text, 0, b"ALTE/")?;
     let (issuer, coded) = issuer(text, named)?;

@@ -1,4 +1,6 @@
 // The formats of the values of fields: what stands behind a qualifier and its slashes.
+#![tactic(auto)]
+
 mod folds;
 pub mod identifiers;
 mod numbers;

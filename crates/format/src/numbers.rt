@@ -20,7 +20,7 @@ fn begins_number(c: u8) -> bool
 // The number at `from`, of at most `most` digits, the first of which is not 0, and the place behind it.
 pub fn number<T: Text>(text: &T, from: usize, most: usize) -> Option<(u64, usize)>
     requires { (0 < most) × (most ≤ 15) }
-    ensures value { placed (chars text.now) result ≡ number_at most (drop from (chars text.now)) }
+    ensures value { placed (T.chars text.now) result ≡ number_at most (drop from (T.chars text.now)) }
     ensures below { IfSome result (λ p. p.0 < 10 ^ most) }
 {
     let Some(first) = text.char_at(from) else {

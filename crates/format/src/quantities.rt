@@ -11,7 +11,7 @@ pub const LARGEST: u64 = 100_000_000_000;
 
 // The quantity that a text spells.
 fn quantity_of<T: Text>(text: &T) -> Option<u64>
-    ensures { result ≡ read_quantity (chars text.now) }
+    ensures { result ≡ read_quantity (T.chars text.now) }
 {
     let start = after_word(text, 0, b"UNIT/")?;
     let (n, end) = number(text, start, 12)?;

@@ -35,7 +35,7 @@ impl Class {
 
 // The place behind the characters of the class that stand at `from`.
 fn run<T: Text>(text: &T, from: usize, class: Class) -> usize
-    ensures { (result ≡ from + length (front (is_in class) (drop from (chars text.now)))) × (drop result (chars text.now) ≡ back (is_in class) (drop from (chars text.now))) }
+    ensures { (result ≡ from + length (front (is_in class) (drop from (T.chars text.now)))) × (drop result (T.chars text.now) ≡ back (is_in class) (drop from (T.chars text.now))) }
 {
     let mut at = from;
     while let Some(c) = text.char_at(at) {
@@ -55,7 +55,7 @@ pub fn after_some<T: Text>(
     least: usize,
     most: usize,
 ) -> Option<usize>
-    ensures { goes_on (chars text.now) result ≡ after_some (is_in class) least most (drop from (chars text.now)) }
+    ensures { goes_on (T.chars text.now) result ≡ after_some (is_in class) least most (drop from (T.chars text.now)) }
 {
     let end = run(text, from, class);
     let len = end - from;
@@ -68,8 +68,8 @@ pub fn after_some<T: Text>(
 
 // Is all that stands from `from` on of the class, and from `least` to `most` characters?
 pub fn is_of<T: Text>(text: &T, from: usize, class: Class, least: usize, most: usize) -> bool
-    ensures value { result ≡ is_of (is_in class) least most (drop from (chars text.now)) }
-    ensures meaning { Decides result (Of (is_in class) least most (drop from (chars text.now))) }
+    ensures value { result ≡ is_of (is_in class) least most (drop from (T.chars text.now)) }
+    ensures meaning { Decides result (Of (is_in class) least most (drop from (T.chars text.now))) }
 {
     match after_some(text, from, class, least, most) {
         Some(end) => ends(text, end),

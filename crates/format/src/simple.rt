@@ -51,7 +51,7 @@ pub fn is_isin_code(value: &[u8]) -> bool
 
 // Is the text the word `ISIN`, a space and the code of an ISIN?
 fn is_isin_text<T: Text>(text: &T) -> bool
-    ensures { result ≡ is_isin (chars text.now) }
+    ensures { result ≡ is_isin (T.chars text.now) }
 {
     match after_word(text, 0, b"ISIN ") {
         Some(start) => is_of(text, start, Class::Alphanumeric, 12, 12),
@@ -69,15 +69,15 @@ pub fn is_isin(value: &[u8]) -> bool
 
 // The place behind a line: 1 to 35 characters of set x.
 fn after_line<T: Text>(text: &T, from: usize) -> Option<usize>
-    ensures { goes_on (chars text.now) result ≡ after_some set_x 1 35 (drop from (chars text.now)) }
+    ensures { goes_on (T.chars text.now) result ≡ after_some set_x 1 35 (drop from (T.chars text.now)) }
 {
     after_some(text, from, Class::SetX, 1, WIDTH)
 }
 
 // Is the text from 1 to `most` lines, with CR LF between them?
 fn is_lines<T: Text>(text: &T, most: usize) -> bool
-    ensures value { result ≡ is_lines most (chars text.now) }
-    ensures meaning { Decides result (Lines most (chars text.now)) }
+    ensures value { result ≡ is_lines most (T.chars text.now) }
+    ensures meaning { Decides result (Lines most (T.chars text.now)) }
 {
     let mut left = most;
     let mut at = 0;

@@ -28,14 +28,14 @@ impl Text for Plain<'_> {
 
 // Does the text end at `from`?
 pub fn ends<T: Text>(text: &T, from: usize) -> bool
-    ensures { result ≡ is_end (drop from (chars text.now)) }
+    ensures { result ≡ is_end (drop from (T.chars text.now)) }
 {
     text.char_at(from).is_none()
 }
 
 // The place behind `word`, where it stands at `from`.
 pub fn after_word<T: Text>(text: &T, from: usize, word: &[u8]) -> Option<usize>
-    ensures { goes_on (chars text.now) result ≡ after_word word.now (drop from (chars text.now)) }
+    ensures { goes_on (T.chars text.now) result ≡ after_word word.now (drop from (T.chars text.now)) }
 {
     let mut at = from;
     for c in word {

@@ -36,7 +36,7 @@ pub struct VoteText {
 
 // The candidate at `from`, if one stands there before a slash, and the place behind it.
 fn candidate<T: Text>(text: &T, from: usize) -> Option<(Option<u8>, usize)>
-    ensures { placed (chars text.now) result ≡ read_candidate (drop from (chars text.now)) }
+    ensures { placed (T.chars text.now) result ≡ read_candidate (drop from (T.chars text.now)) }
 {
     if let Some(b'/') = text.char_at(from) {
         return Some((None, from));
@@ -47,7 +47,7 @@ fn candidate<T: Text>(text: &T, from: usize) -> Option<(Option<u8>, usize)>
 
 // The question and the candidate, with which a vote begins, and the place behind them.
 fn subject<T: Text>(text: &T, from: usize) -> Option<((u8, Option<u8>), usize)>
-    ensures { placed (chars text.now) result ≡ read_subject (drop from (chars text.now)) }
+    ensures { placed (T.chars text.now) result ≡ read_subject (drop from (T.chars text.now)) }
 {
     let start = after_word(text, from, b"ISLB/")?;
     let (question, end) = number(text, start, 2)?;
@@ -58,7 +58,7 @@ fn subject<T: Text>(text: &T, from: usize) -> Option<((u8, Option<u8>), usize)>
 
 // The kind at `from`, and the place behind it.
 fn kind<T: Text>(text: &T, from: usize) -> Option<(VoteKind, usize)>
-    ensures { placed (chars text.now) result ≡ read_kind (drop from (chars text.now)) }
+    ensures { placed (T.chars text.now) result ≡ read_kind (drop from (T.chars text.now)) }
 {
     if let Some(at) = after_word(text, from, b"/TYPE/ORDN") {
         return Some((VoteKind::Ordinary, at));
@@ -69,7 +69,7 @@ fn kind<T: Text>(text: &T, from: usize) -> Option<(VoteKind, usize)>
 
 // The answer at `from`, and the place behind it.
 fn answer<T: Text>(text: &T, from: usize) -> Option<(VoteAnswer, usize)>
-    ensures { placed (chars text.now) result ≡ read_answer (drop from (chars text.now)) }
+    ensures { placed (T.chars text.now) result ≡ read_answer (drop from (T.chars text.now)) }
 {
     if let Some(at) = after_word(text, from, b"/RSLT/CONY") {
         return Some((VoteAnswer::For, at));
@@ -83,7 +83,7 @@ fn answer<T: Text>(text: &T, from: usize) -> Option<(VoteAnswer, usize)>
 
 // The quantity with which a vote ends.
 fn cast<T: Text>(text: &T, from: usize) -> Option<u64>
-    ensures { result ≡ read_cast (drop from (chars text.now)) }
+    ensures { result ≡ read_cast (drop from (T.chars text.now)) }
 {
     let start = after_word(text, from, b"/QVTG/")?;
     let (n, end) = number(text, start, 15)?;
@@ -92,7 +92,7 @@ fn cast<T: Text>(text: &T, from: usize) -> Option<u64>
 
 // The vote that a text spells.
 fn vote_of<T: Text>(text: &T) -> Option<VoteText>
-    ensures { result ≡ read_flat (chars text.now) }
+    ensures { result ≡ read_flat (T.chars text.now) }
 {
     let ((question, candidate), about) = subject(text, 0)?;
     let (kind, typed) = kind(text, about)?;

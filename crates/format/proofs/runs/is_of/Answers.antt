@@ -1,4 +1,4 @@
-use Rattle.std.proofs.Common.{◌≡◌, drop, ap, ◌∙◌}
+use Rattle.std.proofs.Common.{drop, ap, ◌∙◌}
 use Rattle.format.specs.Classes.{is_in}
 use Rattle.format.specs.Texts.{or_false, is_end}
 use Rattle.format.proofs.RunLaws.{of_decides}

@@ -3,10 +3,10 @@ use Rattle.format.specs.Simple.{is_lines}
 use Rattle.format.proofs.RunLaws.{line_then, lines_end, lines_on_lem, lines_decides}
 use Rattle.format.proofs.simple.is_lines.Goals as goal
 
-pub returns-in-default : goal.returns-in-default
-returns-in-default g c =
+pub returns-in_default : goal.returns-in_default
+returns-in_default g c =
     let s = g.T.Text.chars c.args.text.now in
-    let e = sym (line_then c.loop-left.left (drop c.loop-left.at s) None (omega arith) c.in-default.ensures) ∙ c.loop-left.invariant in
+    let e = sym (line_then c.loop-left.left (drop c.loop-left.at s) None (omega arith) c.in_default.ensures) ∙ c.loop-left.invariant in
     record { value = e; meaning = lines_decides c.args.most s _ e }
 
 pub returns-then-ends : goal.returns-then-ends
@@ -18,12 +18,12 @@ returns-then-ends g c =
     ∙ c.loop-left.invariant in
     record { value = e; meaning = lines_decides c.args.most s _ e }
 
-pub returns-in-default-after-word : goal.returns-in-default-after-word
-returns-in-default-after-word g c =
+pub returns-in_default-after_word : goal.returns-in_default-after_word
+returns-in_default-after_word g c =
     let s = g.T.Text.chars c.args.text.now in
     let e =
     sym (line_then c.loop-left.left (drop c.loop-left.at s) (Some (drop c.in-Some.end s)) (omega arith) c.in-Some.ensures
-    ∙ lines_on_lem (is_lines (c.loop-left.left - 1)) (drop c.in-Some.end s) None c.if-ends.ensures c.in-default-after-word.ensures)
+    ∙ lines_on_lem (is_lines (c.loop-left.left - 1)) (drop c.in-Some.end s) None c.if-ends.ensures c.in_default-after_word.ensures)
     ∙ c.loop-left.invariant in
     record { value = e; meaning = lines_decides c.args.most s _ e }
 
@@ -31,7 +31,7 @@ pub loop-left-preserved : goal.loop-left-preserved
 loop-left-preserved g c =
     let s = g.T.Text.chars c.args.text.now in
     sym (line_then c.loop-left.left (drop c.loop-left.at s) (Some (drop c.in-Some.end s)) (omega arith) c.in-Some.ensures
-    ∙ lines_on_lem (is_lines (c.loop-left.left - 1)) (drop c.in-Some.end s) (Some (drop c.in-Some-after-word.next s)) c.if-ends.ensures c.in-Some-after-word.ensures)
+    ∙ lines_on_lem (is_lines (c.loop-left.left - 1)) (drop c.in-Some.end s) (Some (drop c.in-Some-after_word.next s)) c.if-ends.ensures c.in-Some-after_word.ensures)
     ∙ c.loop-left.invariant
 
 pub returns : goal.returns

@@ -2,8 +2,8 @@ use Rattle.std.proofs.Common.{sym, ◌∙◌}
 use Rattle.format.proofs.Steps.{word_ends, word_other, word_more, word_all}
 use Rattle.format.proofs.text.after_word.Goals as goal
 
-pub returns-in-default : goal.returns-in-default
-returns-in-default g c = word_ends c.args.word.now _ c.loop-c.c-index c.loop-c-test.true c.in-default.ensures ∙ c.loop-c.invariant
+pub returns-in_default : goal.returns-in_default
+returns-in_default g c = word_ends c.args.word.now _ c.loop-c.c-index c.loop-c-test.true c.in_default.ensures ∙ c.loop-c.invariant
 
 pub returns-then-x-c : goal.returns-then-x-c
 returns-then-x-c g c =

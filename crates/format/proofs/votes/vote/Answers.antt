@@ -1,4 +1,4 @@
-use Rattle.std.proofs.Common.{◌≡◌, None, sym, ◌∙◌}
+use Rattle.std.proofs.Common.{None, sym, ◌∙◌}
 use Rattle.std.proofs.lemmas.Bool.{cond-true, cond-false}
 use Rattle.format.specs.Folding.{unfolded}
 use Rattle.format.specs.Vote.{read_flat}
@@ -6,14 +6,14 @@ use Rattle.format.proofs.LineLaws.{folds}
 use Rattle.format.proofs.VoteLaws.{vote_decoded, vote_once}
 use Rattle.format.proofs.votes.vote.Goals as goal
 
-pub returns-then-is-folded : goal.returns-then-is-folded
-returns-then-is-folded c =
+pub returns-then-is_folded : goal.returns-then-is_folded
+returns-then-is_folded c =
     let v = c.args.value.now in
-    let e = c.vote-of.ensures ∙ sym (cond-true _ (read_flat (unfolded 35 v)) None (sym c.if-is-folded.ensures)) in
+    let e = c.vote_of.ensures ∙ sym (cond-true _ (read_flat (unfolded 35 v)) None (sym c.if-is_folded.ensures)) in
     record { value = e; decoded = vote_decoded v _ e; once = vote_once; folds = folds }
 
-pub returns-else-is-folded : goal.returns-else-is-folded
-returns-else-is-folded c =
+pub returns-else-is_folded : goal.returns-else-is_folded
+returns-else-is_folded c =
     let v = c.args.value.now in
-    let e = sym (cond-false _ (read_flat (unfolded 35 v)) None (sym c.if-is-folded.ensures)) in
+    let e = sym (cond-false _ (read_flat (unfolded 35 v)) None (sym c.if-is_folded.ensures)) in
     record { value = e; decoded = vote_decoded v None e; once = vote_once; folds = folds }

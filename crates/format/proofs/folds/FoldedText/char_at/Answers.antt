@@ -4,7 +4,7 @@ use Rattle.format.proofs.folds.FoldedText.char_at.Goals as goal
 use Rattle.format.proofs.folds.FoldedText.char_at.Goals.{else-i-len-via-then-i-len+else-breaks-len, else-i-len-via-else-i-len}
 
 pub returns-then-breaks-len : goal.returns-then-breaks-len
-returns-then-breaks-len c = (char_folded c.args.self.now.0.now c.args.i (c.args.i + c.breaks-before-breaks.result) (omega arith) (omega arith), omega arith)
+returns-then-breaks-len c = (char_folded c.args.self.now.0.now c.args.i (c.args.i + c.breaks_before-breaks.result) (omega arith) (omega arith), omega arith)
 
 pub returns-else-i-len : goal.returns-else-i-len
 returns-else-i-len c =
