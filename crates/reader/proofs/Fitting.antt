@@ -1,6 +1,5 @@
 -- A field fits exactly when its value has its row's format. Assumes nothing.
-use Rattle.std.proofs.Common.{◌≡◌, ℕ, Bool, true, false, cond, List, [], ◌∷◌, ◌++◌, is_some, Some, None, Decides, Option, sym, refl, ap, ◌∙◌, subst, arith}
-use Rattle.std.specs.List.{slice_get}
+use Rattle.std.proofs.Common.{◌≡◌, ℕ, Bool, true, false, List, is_some, Some, None, Decides, Option, sym, refl, ap, ◌∙◌, subst}
 use Rattle.std.specs.Option.{option_map}
 use Rattle.std.proofs.lemmas.Bool.{both_ways}
 use Rattle.fields.specs.Characters.{set_x, digit, alphanumeric}
@@ -9,11 +8,11 @@ use Rattle.fields.specs.declared.headers.Qualifier.{Qualifier}
 use Rattle.fields.specs.declared.walk.Field.{Field as TextField}
 use Rattle.format.specs.Texts.{after_word, or_false}
 use Rattle.format.specs.Laws.{Decoded}
-use Rattle.format.specs.Runs.{Of, is_of}
-use Rattle.format.specs.Simple.{Isin as IsIsin, Lines, is_isin, is_lines}
+use Rattle.format.specs.Runs.{Of}
+use Rattle.format.specs.Simple.{Isin as IsIsin, Lines}
 use Rattle.format.specs.Quantity.{InQuantity, quantity_text, read_quantity}
 use Rattle.format.specs.Vote.{InVote, vote_spelled, read_vote}
-use Rattle.format.specs.Identifier.{Identifier, InIdentifier, identifier_text, identifier_in, read_identifier, parts_of}
+use Rattle.format.specs.Identifier.{Identifier, InIdentifier, identifier_text, identifier_in, parts_of}
 use Rattle.format.proofs.NumberLaws.{word_sound, word_complete}
 use Rattle.format.proofs.RunLaws.{of_decides, isin_decides, lines_decides}
 use Rattle.format.proofs.QuantityLaws.{quantity_decoded}
@@ -25,7 +24,6 @@ use Rattle.sheet.specs.declared.rows.Row.{Row}
 use Rattle.sheet.specs.declared.rows.Row.TheVariants.{Open, Close, Field}
 use Rattle.sheet.specs.Keys.{key_of, find_row}
 use Rattle.sheet.specs.Lawful.{Lawful}
-use Rattle.sheet.specs.Laws.{RowAt}
 use Rattle.sheet.proofs.Keyed.{only_row, found_row}
 use Rattle.reader.specs.Reading.{Codes}
 use Rattle.reader.specs.Values.{headed, content_of, content_fits, value_fits, row_fits, number_fits, field_fits}

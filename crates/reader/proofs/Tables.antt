@@ -1,5 +1,5 @@
 -- The table found is one that the sheet allows, and the only one. Assumes nothing.
-use Rattle.std.proofs.Common.{◌≡◌, ℕ, ◌≤◌, List, [], ◌∷◌, ◌++◌, map, length, take, Some, None, Ok, Err, Option, Result, unwrap_or, sym, refl, ap, ◌∙◌, subst, arith}
+use Rattle.std.proofs.Common.{◌≡◌, ℕ, ◌≤◌, List, [], ◌∷◌, map, length, take, Ok, Option, Result, unwrap_or, sym, refl, ap, ◌∙◌, subst, arith}
 use Rattle.std.proofs.lemmas.List.{length-map}
 use Rattle.fields.specs.declared.walk.Field.{Field as TextField}
 use Rattle.fields.specs.Faults.{text_verdict}
@@ -7,7 +7,7 @@ use Rattle.fields.specs.Fields.{fields}
 use Rattle.fields.specs.Laws.{Told}
 use Rattle.fields.proofs.Verdicts.{checked}
 use Rattle.sheet.specs.declared.rows.Row.{Row}
-use Rattle.sheet.specs.Keys.{Key, key_of, keys_of, find_row}
+use Rattle.sheet.specs.Keys.{key_of, keys_of}
 use Rattle.sheet.specs.Lawful.{Lawful}
 use Rattle.sheet.specs.Laws.{KeySentence, Spells}
 use Rattle.sheet.specs.Sentences.{IsSentence}

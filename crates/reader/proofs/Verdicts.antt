@@ -1,25 +1,23 @@
 -- What reading answers is right, and every sentence is read. Assumes nothing.
-use Rattle.std.proofs.Common.{◌≡◌, ℕ, ◌<◌, ◌≤◌, Bool, true, false, cond, leb, List, [], ◌∷◌, ◌++◌, length, Some, None, Ok, Err, Option, Result, sym, refl, ap, ◌∙◌, subst, inl, inr, arith}
+use Rattle.std.proofs.Common.{◌≡◌, ℕ, ◌≤◌, Bool, true, false, cond, leb, List, [], ◌∷◌, ◌++◌, length, Some, None, Ok, Err, Option, Result, sym, refl, ap, ◌∙◌, subst}
 use Rattle.std.proofs.lemmas.Bool.{both_ways, leb-true, leb-false, le-leb}
 use Rattle.fields.specs.declared.faults.TextFault.{TextFault}
 use Rattle.fields.specs.declared.faults.TextFault.TheVariants as TF
 use Rattle.fields.specs.declared.walk.Field.{Field as TextField}
 use Rattle.fields.specs.Faults.{text_verdict}
 use Rattle.fields.specs.Fields.{fields}
-use Rattle.fields.specs.Laws.{TextJudged, Told, Checked}
 use Rattle.fields.proofs.Verdicts.{checked}
 use Rattle.sheet.specs.declared.rows.Row.{Row}
 use Rattle.sheet.specs.Keys.{keys_of}
 use Rattle.sheet.specs.Lawful.{Lawful}
-use Rattle.sheet.specs.Laws.{KeySentence, KeyJudged}
+use Rattle.sheet.specs.Laws.{KeySentence}
 use Rattle.sheet.specs.Order.{order_fault}
 use Rattle.sheet.proofs.Judging.{judged, only}
 use Rattle.reader.specs.declared.faults.ReadingFault.{ReadingFault}
 use Rattle.reader.specs.declared.faults.ReadingFault.TheVariants.{MessageNumber, Length, Character, Line, Order, Value, Table}
-use Rattle.reader.specs.Faults.{of_text}
 use Rattle.reader.specs.Reading.{Codes, fault_at, after_text, sentence_verdict, room_verdict, read_verdict}
 use Rattle.reader.specs.Values.{field_fits, value_from, value_fault}
-use Rattle.reader.specs.Laws.{AllFit, Fits, Unfit, TextSentence, SentenceJudged, SentenceChecked, ReadJudged}
+use Rattle.reader.specs.Laws.{AllFit, Fits, TextSentence, SentenceJudged, SentenceChecked, ReadJudged}
 use Rattle.reader.proofs.Fitting.{fits_right, fits_complete}
 
 module _ (rows : List Row) (law : Lawful rows) (codes : Codes) (text : List ℕ) where

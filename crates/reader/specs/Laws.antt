@@ -1,7 +1,6 @@
 -- What reading comes to, in the words of the subject. Assumes nothing.
-use Rattle.std.specs.Prelude.{◌≡◌, ℕ, ◌<◌, ◌≤◌, Bool, true, List, [], ◌∷◌, ◌++◌, map, length, take, is_ok, Some, None, Ok, Err, Option, Result}
+use Rattle.std.specs.Prelude.{◌≡◌, ℕ, ◌<◌, ◌≤◌, Bool, true, List, [], ◌∷◌, ◌++◌, map, length, take, Some, Ok, Err, Option, Result}
 use Rattle.std.specs.List.{slice_get}
-use Rattle.fields.specs.declared.faults.TextFault.{TextFault}
 use Rattle.fields.specs.declared.faults.TextFault.TheVariants as TF
 use Rattle.fields.specs.declared.headers.Qualifier.{Qualifier}
 use Rattle.fields.specs.declared.walk.Field.{Field as TextField}
@@ -25,7 +24,6 @@ use Rattle.reader.specs.declared.faults.ReadingFault.{ReadingFault}
 use Rattle.reader.specs.declared.faults.ReadingFault.TheVariants.{MessageNumber, Length, Character, Line, Order, Value, Table}
 use Rattle.reader.specs.declared.table.Entry.{Entry}
 use Rattle.reader.specs.Values.{headed}
-use Rattle.reader.specs.Tables.{table_of}
 use Rattle.reader.specs.Reading.{Codes, sentence_verdict, read_verdict, table_after}
 
 -- the value is its qualifier and two slashes, if it has one, and then something that is P

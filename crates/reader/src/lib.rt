@@ -1,4 +1,6 @@
 // Reading: a text into a field table, by a sheet.
+#![tactic(auto)]
+
 pub mod faults;
 pub mod reading;
 pub mod table;

@@ -16,7 +16,7 @@ use sheets::standard::StandardSheet;
 
 // The first of the questions about length, characters, lines, order and values that the text fails. Each takes one pass.
 fn first_fault<S: Sheet>(sheet: &S, text: &[u8]) -> Result<(), ReadingFault>
-    ensures { result ≡ sentence_verdict (rows sheet.now) (codes sheet.now) text.now }
+    ensures { result ≡ sentence_verdict (S.rows sheet.now) (S.codes sheet.now) text.now }
 {
     check_text(text)?;
     if let Some(start) = order_fault(sheet, text) {
@@ -30,14 +30,14 @@ fn first_fault<S: Sheet>(sheet: &S, text: &[u8]) -> Result<(), ReadingFault>
 
 // Is the text a sentence of the sheet? If not, answers the first question that it fails, and where.
 pub fn check_sentence<S: Sheet>(sheet: &S, text: &[u8]) -> Result<(), ReadingFault>
-    ensures { SentenceChecked (rows sheet.now) (codes sheet.now) text.now result }
+    ensures { SentenceChecked (S.rows sheet.now) (S.codes sheet.now) text.now result }
 {
     first_fault(sheet, text)
 }
 
 // How many fields the text has, where it is a sentence of the sheet and there is room for an entry for each.
 fn count_fields<S: Sheet>(sheet: &S, text: &[u8], room: usize) -> Result<usize, ReadingFault>
-    ensures { result ≡ read_verdict (rows sheet.now) (codes sheet.now) text.now room }
+    ensures { result ≡ read_verdict (S.rows sheet.now) (S.codes sheet.now) text.now room }
 {
     first_fault(sheet, text)?;
     let count = field_count(text);
@@ -50,7 +50,7 @@ fn count_fields<S: Sheet>(sheet: &S, text: &[u8], room: usize) -> Result<usize, 
 
 // Reads the text by the sheet into the table, and answers how many entries it filled. Refused, it leaves the table as found.
 pub fn read_by<S: Sheet>(sheet: &S, text: &[u8], table: &mut [Entry]) -> Result<usize, ReadingFault>
-    ensures { Reads (rows sheet.now) (codes sheet.now) text.now table.old table.new result }
+    ensures { Reads (S.rows sheet.now) (S.codes sheet.now) text.now table.old table.new result }
 {
     let count = count_fields(sheet, text, table.len())?;
     fill(sheet, text, table);

@@ -16,7 +16,7 @@ pub struct Entry {
 
 // The entry of a field. A field that is of no row gets the number behind the last.
 fn entry_of<S: Sheet>(sheet: &S, text: &[u8], field: Field) -> Entry
-    ensures { result ≡ entry_of (rows sheet.now) text.now field }
+    ensures { result ≡ entry_of (S.rows sheet.now) text.now field }
 {
     let value = value_of(text, field);
     let row = match find_row(sheet, field.tag, field.qualifier, value) {
@@ -32,7 +32,7 @@ fn entry_of<S: Sheet>(sheet: &S, text: &[u8], field: Field) -> Entry
 
 // Writes the entries of the text's fields, as many as there is room for; the other entries stay.
 pub(crate) fn fill<S: Sheet>(sheet: &S, text: &[u8], table: &mut [Entry])
-    ensures { table.new ≡ filled (table_of (rows sheet.now) text.now) table.old }
+    ensures { table.new ≡ filled (table_of (S.rows sheet.now) text.now) table.old }
 {
     let mut at = 0;
     for field in Fields::of(text) {

@@ -31,7 +31,7 @@ fn content_fits<S: Sheet>(
     format: Format,
     content: &[u8],
 ) -> bool
-    ensures { result ≡ content_fits (codes sheet.now row qualifier) format content.now }
+    ensures { result ≡ content_fits (S.codes sheet.now row qualifier) format content.now }
 {
     match format {
         Format::Reference => is_reference(content),
@@ -55,7 +55,7 @@ fn value_fits<S: Sheet>(
     format: Format,
     value: &[u8],
 ) -> bool
-    ensures { result ≡ value_fits (codes sheet.now row qualifier) qualifier format value.now }
+    ensures { result ≡ value_fits (S.codes sheet.now row qualifier) qualifier format value.now }
 {
     if let Format::AlternateIdentifier = format {
         return identifier(value).is_some();
@@ -68,7 +68,7 @@ fn value_fits<S: Sheet>(
 
 // Has the field the format of its row? A field that begins or ends a block has no more to it than its key.
 fn field_fits<S: Sheet>(sheet: &S, text: &[u8], field: Field) -> bool
-    ensures { result ≡ field_fits (rows sheet.now) (codes sheet.now) text.now field }
+    ensures { result ≡ field_fits (S.rows sheet.now) (S.codes sheet.now) text.now field }
 {
     let value = value_of(text, field);
     let Some(i) = find_row(sheet, field.tag, field.qualifier, value) else {
@@ -83,7 +83,7 @@ fn field_fits<S: Sheet>(sheet: &S, text: &[u8], field: Field) -> bool
 
 // Where the first value starts that has not its row's format.
 pub(crate) fn value_fault<S: Sheet>(sheet: &S, text: &[u8]) -> Option<usize>
-    ensures { result ≡ value_fault (rows sheet.now) (codes sheet.now) text.now }
+    ensures { result ≡ value_fault (S.rows sheet.now) (S.codes sheet.now) text.now }
 {
     for field in Fields::of(text) {
         if !field_fits(sheet, text, field) {

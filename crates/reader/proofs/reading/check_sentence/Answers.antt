@@ -5,4 +5,4 @@ use Rattle.reader.proofs.reading.check_sentence.Goals as goal
 pub returns : goal.returns
 returns g c =
     sentence_checked (g.S.Sheet.rows c.args.sheet.now) (g.S.Sheet.lawful c.args.sheet.now) (g.S.Sheet.codes c.args.sheet.now)
-    c.args.text.now c.first-fault.result c.first-fault.ensures
+    c.args.text.now c.first_fault.result c.first_fault.ensures

@@ -10,8 +10,8 @@ loop-field-preserved-then-at-table g c = (
   simp length-set (omega arith),
   c.loop-field.invariant.1
       ∙ turn_more (entry_of (g.S.Sheet.rows c.args.sheet.now) c.args.text.now) (coming c.loop-field.field-iterator)
-      (coming c.next.new.self) c.in-Some.field c.entry-of.result c.loop-field.table c.loop-field.at
-      c.in-Some.ensures.steps c.entry-of.ensures c.if-at-table.true,
+      (coming c.next.new.self) c.in-Some.field c.entry_of.result c.loop-field.table c.loop-field.at
+      c.in-Some.ensures.steps c.entry_of.ensures c.if-at-table.true,
 )
 
 pub loop-field-preserved : goal.loop-field-preserved
