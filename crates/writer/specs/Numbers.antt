@@ -1,5 +1,5 @@
 -- Writing and filing the message of a number. Assumes nothing.
-use Rattle.std.specs.Prelude.{◌≡◌, ℕ, List, length, replicate, Some, None, Ok, Err, Option, Result}
+use Rattle.std.specs.Prelude.{◌≡◌, ℕ, List, length, replicate, Some, None, Err, Option, Result}
 use Rattle.sheets.specs.declared.standard.StandardSheet.{StandardSheet}
 use Rattle.sheets.specs.Standards.{rows_of, codes_of}
 use Rattle.reader.specs.declared.faults.ReadingFault.TheVariants as RF

@@ -8,7 +8,7 @@ use sheet::interface::Sheet;
 
 // Has the entry a row, and a part inside the bytes with that row's key and no colon in it directly behind a CR LF?
 fn is_good_entry<S: Sheet>(sheet: &S, entry: Entry, bytes: &[u8]) -> bool
-    ensures { result ≡ good_entry (rows sheet.now) bytes.now entry }
+    ensures { result ≡ good_entry (S.rows sheet.now) bytes.now entry }
 {
     let Some(row) = sheet.row(entry.row) else {
         return false;
@@ -19,7 +19,7 @@ fn is_good_entry<S: Sheet>(sheet: &S, entry: Entry, bytes: &[u8]) -> bool
 
 // The number of the first entry, from 0, that cannot be spelled.
 pub(crate) fn entry_fault<S: Sheet>(sheet: &S, entries: &[Entry], bytes: &[u8]) -> Option<usize>
-    ensures { result ≡ entry_fault (rows sheet.now) bytes.now entries.now }
+    ensures { result ≡ entry_fault (S.rows sheet.now) bytes.now entries.now }
 {
     for (i, item) in entries.iter().enumerate() {
         if !is_good_entry(sheet, *item, bytes) {

@@ -1,6 +1,6 @@
 // Filing a text as it was sent.
 ghost use Rattle.std.specs.Prelude.{◌≡◌};
-ghost use Rattle.writer.specs.declared.filing.FilingFault.TheVariants.{Reading as by-reading, Writing as by-writing};
+ghost use Rattle.writer.specs.declared.filing.FilingFault.TheVariants.{Reading as by_reading, Writing as by_writing};
 ghost use Rattle.writer.specs.Filing.{Refiles};
 ghost use Rattle.sheets.specs.Standards.{sheet_of};
 ghost use Rattle.writer.specs.Numbers.{RefilesNumbered};
@@ -24,7 +24,7 @@ pub enum FilingFault {
 }
 
 impl From<ReadingFault> for FilingFault {
-    ghost from_gives = { λ e r. r ≡ by-reading e };
+    ghost from_gives = { λ e r. r ≡ by_reading e };
 
     fn from(fault: ReadingFault) -> FilingFault {
         FilingFault::Reading(fault)
@@ -32,7 +32,7 @@ impl From<ReadingFault> for FilingFault {
 }
 
 impl From<WritingFault> for FilingFault {
-    ghost from_gives = { λ e r. r ≡ by-writing e };
+    ghost from_gives = { λ e r. r ≡ by_writing e };
 
     fn from(fault: WritingFault) -> FilingFault {
         FilingFault::Writing(fault)
@@ -47,7 +47,7 @@ pub fn refile_by<S: Sheet>(
     table: &mut [Entry],
     out: &mut [u8],
 ) -> Result<usize, FilingFault>
-    ensures { Refiles (rows sheet.now) (codes sheet.now) text.now table.old table.new out.old out.new result }
+    ensures { Refiles (S.rows sheet.now) (S.codes sheet.now) text.now table.old table.new out.old out.new result }
 {
     let mut output = Output {
         bytes: out,

@@ -1,4 +1,6 @@
 // Writing: a text from a field table, by a sheet.
+#![tactic(auto)]
+
 mod entries;
 pub mod faults;
 pub mod filing;

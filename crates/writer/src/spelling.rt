@@ -85,7 +85,7 @@ fn put_line_end(scratch: &mut Scratch) -> Option<()>
 
 // Spells an entry: its header, its part and CR LF. One without a row is passed over.
 fn put_entry<S: Sheet>(scratch: &mut Scratch, sheet: &S, entry: Entry, bytes: &[u8]) -> Option<()>
-    ensures { Puts (written scratch.old) (spelled_entry (rows sheet.now) bytes.now entry) (written scratch.new) result }
+    ensures { Puts (written scratch.old) (spelled_entry (S.rows sheet.now) bytes.now entry) (written scratch.new) result }
 {
     let Some(row) = sheet.row(entry.row) else {
         return Some(());
@@ -102,7 +102,7 @@ pub(crate) fn put_entries<S: Sheet>(
     entries: &[Entry],
     bytes: &[u8],
 ) -> Option<()>
-    ensures { Puts (written scratch.old) (spelled_text (rows sheet.now) bytes.now entries.now) (written scratch.new) result }
+    ensures { Puts (written scratch.old) (spelled_text (S.rows sheet.now) bytes.now entries.now) (written scratch.new) result }
 {
     for item in entries {
         put_entry(scratch, sheet, *item, bytes)?;

@@ -18,7 +18,7 @@ use sheets::standard::StandardSheet;
 
 // The text that the entries spell. If not, answers the first question about the entries, and then about the text, that is answered no.
 fn spell<S: Sheet>(sheet: &S, entries: &[Entry], bytes: &[u8]) -> Result<Scratch, WritingFault>
-    ensures { Spells (rows sheet.now) (codes sheet.now) entries.now bytes.now result }
+    ensures { Spells (S.rows sheet.now) (S.codes sheet.now) entries.now bytes.now result }
 {
     if let Some(index) = entry_fault(sheet, entries, bytes) {
         return Err(WritingFault::Entry(index));
@@ -38,8 +38,8 @@ fn write_guarded<S: Sheet>(
     bytes: &[u8],
     out: &mut [u8],
 ) -> Result<usize, WritingFault>
-    ensures value { result ≡ write_verdict (rows sheet.now) (codes sheet.now) entries.now bytes.now (length out.old) }
-    ensures output { out.new ≡ output_after (spelled_text (rows sheet.now) bytes.now entries.now) out.old result }
+    ensures value { result ≡ write_verdict (S.rows sheet.now) (S.codes sheet.now) entries.now bytes.now (length out.old) }
+    ensures output { out.new ≡ output_after (spelled_text (S.rows sheet.now) bytes.now entries.now) out.old result }
 {
     let mut output = Output {
         bytes: out,
@@ -59,7 +59,7 @@ pub fn write_by<S: Sheet>(
     bytes: &[u8],
     out: &mut [u8],
 ) -> Result<usize, WritingFault>
-    ensures { Writes (rows sheet.now) (codes sheet.now) entries.now bytes.now out.old out.new result }
+    ensures { Writes (S.rows sheet.now) (S.codes sheet.now) entries.now bytes.now out.old out.new result }
 {
     write_guarded(sheet, entries, bytes, out)
 }

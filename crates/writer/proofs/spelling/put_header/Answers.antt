@@ -5,5 +5,5 @@ use Rattle.writer.proofs.spelling.put_header.Goals as goal
 
 pub returns : goal.returns
 returns c =
-    puts_header c.args.row c.tag-of-a.result _ (written c.args.scratch.now) (written c.put.new.self) _ _ c.tag-of-a.ensures
-    c.second-colon.ensures c.in-ok-put.ensures c.put-2.ensures
+    puts_header c.args.row c.tag_of-a.result _ (written c.args.scratch.now) (written c.put.new.self) _ _ c.tag_of-a.ensures
+    c.second_colon.ensures c.in_ok-put.ensures c.put-2.ensures
