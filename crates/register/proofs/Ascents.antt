@@ -2,7 +2,7 @@
 use Rattle.std.proofs.Common.{◌≡◌, ℕ, zero, suc, ◌-◌, ◌<◌, ◌≤◌, min, Bool, true, false, List, [], ◌∷◌, ◌++◌, length, get_or, take, drop, is_some, is_ok, Some, None, Ok, Err, Result, Ordering, Less, Equal, Greater, sym, refl, ap, ◌∙◌, subst, arith, MatchResult}
 use Rattle.std.specs.Cmp.{nat_cmp_total}
 use Rattle.std.specs.Ordering.{ordering_reverse, ordering_then}
-use Rattle.std.specs.List.{HoldsAt, insert, remove, AllByRecursion as All}
+use Rattle.std.specs.List.{HoldsAt, insert, remove, AllByRecursion}
 use Rattle.std.specs.Str.{bytes_eq}
 use Rattle.std.proofs.ByRecursion.{All-weaker, All-take, All-drop, All-append, All-get_or}
 use Rattle.std.proofs.lemmas.List.{take-append-drop, length-take, get_or-take}
@@ -16,7 +16,7 @@ use Rattle.register.specs.Places.{Ascending, Sought, Halved}
 use Rattle.register.specs.Lists.{Compared, ranked}
 use Rattle.register.specs.Rising.{less_apart, order_turn, look_absent, distinct_from_ascending}
 use Rattle.register.proofs.Pairs.{same_flip, same_refl, look_hit, look_some}
-use Rattle.std.specs.Ordering as std-orderings
+use Rattle.std.specs.Ordering as std_orderings
 use Rattle.std.specs.Cmp.Lexicographic.{lists_total}
 
 first_equal : (k m : Ordering) → ordering_then k m ≡ Equal → (k ≡ Equal) × (m ≡ Equal)
@@ -29,7 +29,7 @@ equal_is [] [] h = refl
 equal_is [] (y ∷ ys) h = let z : ◌≡◌ {A = ℕ} 0 1 = cc in absurd (omega arith)
 equal_is (x ∷ xs) [] h = let z : ◌≡◌ {A = ℕ} 0 1 = cc in absurd (omega arith)
 equal_is (x ∷ xs) (y ∷ ys) h =
-    let p = first_equal (std-orderings.nat_cmp x y) (order xs ys) h in
+    let p = first_equal (std_orderings.nat_cmp x y) (order xs ys) h in
     let q = p.0 in
     let e : x ≡ y = grind (arith, nat_tests) in
     let f = equal_is xs ys p.1 in
@@ -40,7 +40,7 @@ equal_same a b h = rw (equal_is a b h) (same_refl b)
 
 module _ {V : Type 0} where
   -- all before a place are below k if the last of them is
-  pub before : (ps : List (Entry V)) (i : ℕ) (k : List ℕ) (d : Entry V) → Ascending ps → i ≤ length ps → ((j : ℕ) → suc j ≡ i → order (key (get_or ps j d)) k ≡ Less) → All (λ q. order (key q) k ≡ Less) (take i ps)
+  pub before : (ps : List (Entry V)) (i : ℕ) (k : List ℕ) (d : Entry V) → Ascending ps → i ≤ length ps → ((j : ℕ) → suc j ≡ i → order (key (get_or ps j d)) k ≡ Less) → AllByRecursion (λ q. order (key q) k ≡ Less) (take i ps)
   before ps zero k d up le h = tt
   before [] (suc i) k d up le h = tt
   before (p ∷ ps) (suc zero) k d up le h = (h 0 refl, tt)
@@ -49,7 +49,7 @@ module _ {V : Type 0} where
       (((lists_total nat_cmp_total).trans (key p) (key (get_or ps i d)) k (All-get_or (λ q. order (key p) (key q) ≡ Less) ps i d l up.0) (h (suc i) refl)), before ps (suc i) k d up.1 (omega arith) (λ j e. h (suc j) (ap suc e)))
 
   -- all from a place on are above k if the first of them is
-  pub after : (ps : List (Entry V)) (i : ℕ) (k : List ℕ) (d : Entry V) → Ascending ps → (i < length ps → order (key (get_or ps i d)) k ≡ Greater) → All (λ q. order k (key q) ≡ Less) (drop i ps)
+  pub after : (ps : List (Entry V)) (i : ℕ) (k : List ℕ) (d : Entry V) → Ascending ps → (i < length ps → order (key (get_or ps i d)) k ≡ Greater) → AllByRecursion (λ q. order k (key q) ≡ Less) (drop i ps)
   after [] zero k d up h = tt
   after [] (suc i) k d up h = tt
   after (p ∷ ps) zero k d up h =
@@ -57,7 +57,7 @@ module _ {V : Type 0} where
       (l, All-weaker (λ q. order (key p) (key q) ≡ Less) (λ q. order k (key q) ≡ Less) (λ q m. (lists_total nat_cmp_total).trans k (key p) (key q) l m) ps up.0)
   after (p ∷ ps) (suc i) k d up h = after ps i k d up.1 (λ lt. h (omega arith))
 
-  pub ascending_inserted : (ps : List (Entry V)) (i : ℕ) (e : Entry V) → Ascending ps → All (λ q. order (key q) (key e) ≡ Less) (take i ps) → All (λ q. order (key e) (key q) ≡ Less) (drop i ps) → Ascending (insert ps i e)
+  pub ascending_inserted : (ps : List (Entry V)) (i : ℕ) (e : Entry V) → Ascending ps → AllByRecursion (λ q. order (key q) (key e) ≡ Less) (take i ps) → AllByRecursion (λ q. order (key e) (key q) ≡ Less) (drop i ps) → Ascending (insert ps i e)
   ascending_inserted ps zero e up lo hi = (hi, up)
   ascending_inserted [] (suc i) e up lo hi = (tt, tt)
   ascending_inserted (p ∷ ps) (suc i) e up lo hi =
@@ -70,14 +70,14 @@ module _ {V : Type 0} where
   ascending_removed (p ∷ ps) (suc i) up =
       (All-append (λ q. order (key p) (key q) ≡ Less) (take i ps) (drop (suc i) ps) (All-take (λ q. order (key p) (key q) ≡ Less) i ps up.0) (All-drop (λ q. order (key p) (key q) ≡ Less) (suc i) ps up.0), ascending_removed ps i up.1)
 
-  pub look_between : (ps : List (Entry V)) (i : ℕ) (k : List ℕ) → All (λ q. order (key q) k ≡ Less) (take i ps) → All (λ q. order k (key q) ≡ Less) (drop i ps) → look ps k ≡ None
+  pub look_between : (ps : List (Entry V)) (i : ℕ) (k : List ℕ) → AllByRecursion (λ q. order (key q) k ≡ Less) (take i ps) → AllByRecursion (λ q. order k (key q) ≡ Less) (drop i ps) → look ps k ≡ None
   look_between ps i k lo hi =
       let a = All-weaker (λ q. order (key q) k ≡ Less) (λ q. bytes_eq (key q) k ≡ false) (λ q m. same_flip (key q) k ∙ less_apart (key q) k m) (take i ps) lo in
       let b = All-weaker (λ q. order k (key q) ≡ Less) (λ q. bytes_eq (key q) k ≡ false) (λ q m. less_apart k (key q) m) (drop i ps) hi in
       let P : List (Entry V) → Type 0 = λ l. look l k ≡ None in
       subst P (take-append-drop i ps) (look_absent (take i ps ++ drop i ps) k (All-append (λ q. bytes_eq (key q) k ≡ false) (take i ps) (drop i ps) a b))
 
-  pub between : (ps : List (Entry V)) (i : ℕ) (k : List ℕ) (d : Entry V) → Ascending ps → Sought ps k (Err i) → All (λ q. order (key q) k ≡ Less) (take i ps) × All (λ q. order k (key q) ≡ Less) (drop i ps)
+  pub between : (ps : List (Entry V)) (i : ℕ) (k : List ℕ) (d : Entry V) → Ascending ps → Sought ps k (Err i) → AllByRecursion (λ q. order (key q) k ≡ Less) (take i ps) × AllByRecursion (λ q. order k (key q) ≡ Less) (drop i ps)
   between ps i k d up s = (before ps i k d up s.0 (λ j e. s.1 j (omega arith) d), after ps i k d up (λ lt. s.2 lt d))
 
   pub sought_none : (ps : List (Entry V)) (i : ℕ) (k : List ℕ) (d : Entry V) → Ascending ps → Sought ps k (Err i) → look ps k ≡ None
@@ -132,7 +132,7 @@ compared_from used xs k d (Err i) m s h = record {
 }
 
 -- between those below and those above is the place of its rank
-ranked_at : (ps : List Pair) (i : ℕ) (e : Pair) → All (λ q. order (key q) (key e) ≡ Less) (take i ps) → All (λ q. order (key e) (key q) ≡ Less) (drop i ps) → insert ps i e ≡ ranked e ps
+ranked_at : (ps : List Pair) (i : ℕ) (e : Pair) → AllByRecursion (λ q. order (key q) (key e) ≡ Less) (take i ps) → AllByRecursion (λ q. order (key e) (key q) ≡ Less) (drop i ps) → insert ps i e ≡ ranked e ps
 ranked_at [] zero e lo hi = refl
 ranked_at (p ∷ ps) zero e lo hi =
     let g : order (key p) (key e) ≡ Greater = (lists_total nat_cmp_total).antisymm (key p) (key e) ∙ ap ordering_reverse hi.0 in

@@ -1,6 +1,6 @@
 -- The rule of a front: when it answers from memory, when it asks below, and what it remembers and counts. Assumes nothing.
 use Rattle.std.specs.Prelude.{◌≡◌, ℕ, ◌+◌, ◌-◌, min, cond, List, [], take, Some, None, Option, ◌==◌}
-use Rattle.std.specs.List.{AllByRecursion as All}
+use Rattle.std.specs.List.{AllByRecursion}
 use Rattle.register.specs.declared.reference.Reference.{Reference}
 use Rattle.register.specs.declared.memory.Memory.{Memory}
 use Rattle.register.specs.declared.front.Front.{Front}
@@ -23,7 +23,7 @@ recalled s r = look (remembered s.memory) (spelling r)
 
 -- each remembered answer is what a look-up among these pairs says
 abbrev pub Agrees : List Pair → List Memo → Type 0
-Agrees ps ms = All (λ m. m.value ≡ look ps (key m)) ms
+Agrees ps ms = AllByRecursion (λ m. m.value ≡ look ps (key m)) ms
 
 -- a front is in order where the register below is, and its memory agrees with the pairs there
 abbrev pub InStep : {R : Type 0} (pairs : R → List Pair) (ordered : R → Type 0) → Front R → Type 0

@@ -1,7 +1,7 @@
 -- Where a reference stands in a row of entries. Assumes nothing.
 use Rattle.std.specs.Prelude.{◌≡◌, ℕ, ◌+◌, ◌*◌, ◌^◌, ◌<◌, ◌≤◌, true, List, [], ◌∷◌, length, None, Option, Result, MatchOption, MatchResult}
 use Rattle.std.specs.declared.cmp.Ordering.TheVariants.{Less, Equal, Greater}
-use Rattle.std.specs.List.{HoldsAt, AllByRecursion as All}
+use Rattle.std.specs.List.{HoldsAt, AllByRecursion}
 use Rattle.std.specs.Str.{bytes_eq}
 use Rattle.register.specs.declared.entry.Entry.{Entry}
 use Rattle.register.specs.Pairs.{key, look}
@@ -14,7 +14,7 @@ Placed ps k r = MatchOption r (look ps k ≡ None) (λ i. (i < length ps) × Hol
 -- each reference is below those after it
 abbrev pub Ascending : {V : Type 0} → List (Entry V) → Type 0
 Ascending [] = Unit {0}
-Ascending (p ∷ ps) = All (λ q. order (key p) (key q) ≡ Less) ps × Ascending ps
+Ascending (p ∷ ps) = AllByRecursion (λ q. order (key p) (key q) ≡ Less) ps × Ascending ps
 
 -- where the reference k stands, or the place between one below it and one above it
 abbrev pub Sought : {V : Type 0} → List (Entry V) → List ℕ → Result ℕ ℕ → Type 0

@@ -5,7 +5,7 @@ use Rattle.std.specs.declared.cmp.Ordering.{Ordering}
 use Rattle.std.proofs.Common.{arith, ◌∙◌, ap, inl, inr}
 use Rattle.std.specs.Cmp.{nat_cmp_total}
 use Rattle.std.specs.Ordering.{ordering_reverse}
-use Rattle.std.specs.List.{AllByRecursion as All}
+use Rattle.std.specs.List.{AllByRecursion}
 use Rattle.std.specs.Str.{bytes_eq}
 use Rattle.std.proofs.ByRecursion.{All-weaker}
 use Rattle.std.proofs.lemmas.Slice.Eq.{bytes_eq-Decides}
@@ -39,7 +39,7 @@ less_apart a b h =
     elim (cases_Bool (bytes_eq b a)) [ inl e ↦ absurd (let f = same_eq b a e in let r = order_refl a in let z : ◌≡◌ {A = ℕ} 0 1 = cc in omega arith) | inr e ↦ e ]
 
 module _ {V : Type 0} where
-  pub look_absent : (ps : List (Entry V)) (k : List ℕ) → All (λ p. bytes_eq (key p) k ≡ false) ps → look ps k ≡ None
+  pub look_absent : (ps : List (Entry V)) (k : List ℕ) → AllByRecursion (λ p. bytes_eq (key p) k ≡ false) ps → look ps k ≡ None
   look_absent [] k h = refl
   look_absent (p ∷ ps) k h = rw h.0 (look_absent ps k h.1)
 

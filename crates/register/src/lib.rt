@@ -1,4 +1,6 @@
 // Registers of references: one interface, two lists behind it and a front that remembers.
+#![tactic(auto)]
+
 pub mod arrival;
 pub mod call;
 pub mod entry;

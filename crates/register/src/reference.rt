@@ -3,10 +3,8 @@ ghost use Rattle.std.specs.Prelude.{◌≡◌, true, false, T, [], ◌∷◌, So
 ghost use Rattle.std.specs.Str.{bytes_eq};
 ghost use Rattle.register.specs.Order.{order};
 ghost use Rattle.register.specs.Texts.{shaped, unpadded, padded, is_text, all_x};
-ghost use Rattle.std.specs.Cmp.Rules.{comparing};
-ghost use Rattle.std.proofs.Common.{rules, arith};
-ghost use Rattle.std.specs.Cmp as Keys;
-ghost use Rattle.std.specs.Cmp.{partial_order_from_agreeing_total};
+ghost use Rattle.std.specs.Cmp.{partial_equiv_from_equiv, partial_order_from_agreeing_total};
+ghost use Rattle.std.specs.Cmp.Lexicographic.{on_texts, on_texts_equal, texts_ties};
 
 use fields::characters::in_set_x;
 use std::cmp::Ordering;
@@ -88,7 +86,7 @@ fn all_in_set_x(text: &[u8]) -> bool
 impl PartialEq for Reference {
     ghost eq = { λ x y. bytes_eq (unpadded x.bytes) (unpadded y.bytes) };
 
-    ghost laws = { Keys.partial_equiv_from_equiv (first_of (Prim.search (comparing, rules), Prim.grind (arith, Self.row.coded.inj))) };
+    ghost laws = { partial_equiv_from_equiv (on_texts_equal (λ x. unpadded x.bytes)) };
 
     fn eq(&self, other: &Reference) -> bool {
         self.spells(other)
@@ -96,13 +94,13 @@ impl PartialEq for Reference {
 }
 
 impl Eq for Reference {
-    ghost laws = { first_of (Prim.search (comparing, rules), Prim.grind (arith, Self.row.coded.inj)) };
+    ghost laws = { on_texts_equal (λ x. unpadded x.bytes) };
 }
 
 impl PartialOrd for Reference {
     ghost partial_cmp = { λ x y. Some (order (unpadded x.bytes) (unpadded y.bytes)) };
 
-    ghost laws = { partial_order_from_agreeing_total (λ x y. order (unpadded x.bytes) (unpadded y.bytes)) (first_of (Prim.search (comparing, rules), Prim.grind (arith, Self.row.coded.inj))) (λ _ _. refl) (first_of (Prim.search (comparing, rules), Prim.grind (arith, Self.row.coded.inj))) };
+    ghost laws = { partial_order_from_agreeing_total (λ x y. order (unpadded x.bytes) (unpadded y.bytes)) (on_texts (λ x. unpadded x.bytes)) (λ _ _. refl) (λ x y. texts_ties (unpadded x.bytes) (unpadded y.bytes)) };
 
     fn partial_cmp(&self, other: &Reference) -> Option<Ordering> {
         Some(self.cmp(other))
@@ -112,11 +110,11 @@ impl PartialOrd for Reference {
 impl Ord for Reference {
     ghost cmp = { λ x y. order (unpadded x.bytes) (unpadded y.bytes) };
 
-    ghost total = { first_of (Prim.search (comparing, rules), Prim.grind (arith, Self.row.coded.inj)) };
+    ghost total = { on_texts (λ x. unpadded x.bytes) };
 
-    ghost matches_partial_cmp = { first_of (Prim.search (comparing, rules), Prim.grind (arith, Self.row.coded.inj)) };
+    ghost matches_partial_cmp = { λ _ _. refl };
 
-    ghost matches_eq = { first_of (Prim.search (comparing, rules), Prim.grind (arith, Self.row.coded.inj)) };
+    ghost matches_eq = { λ x y. texts_ties (unpadded x.bytes) (unpadded y.bytes) };
 
     fn cmp(&self, other: &Reference) -> Ordering {
         self.compare(other)

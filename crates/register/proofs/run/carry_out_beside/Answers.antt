@@ -6,8 +6,8 @@ use Rattle.register.proofs.run.carry_out_beside.Goals as goal
 pub returns : goal.returns
 returns g c =
     let r = g.R.Register in
-    let x = c.carry-out-both.ensures.one in
-    let y = c.carry-out-both.ensures.other in
+    let x = c.carry_out_both.ensures.one in
+    let y = c.carry_out_both.ensures.other in
     record {
       front = x;
       bare = y;

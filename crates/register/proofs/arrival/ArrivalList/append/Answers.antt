@@ -7,9 +7,9 @@ use Rattle.register.proofs.Edits.{entered_at, refused_full}
 use Rattle.register.proofs.Rows.{pushed}
 use Rattle.register.proofs.arrival.ArrivalList.append.Goals as goal
 
-pub returns-then-is-full : goal.returns-then-is-full
-returns-then-is-full c =
-    let full = leb-true _ _ (sym c.if-is-full.ensures) in
+pub returns-then-is_full : goal.returns-then-is_full
+returns-then-is_full c =
+    let full = leb-true _ _ (sym c.if-is_full.ensures) in
     record { fixed = refl; keeps = λ none o. o; enters = λ none o. refused_full _ _ _ _ none (simp length-take (omega arith)); follows = λ o. refl }
 
 pub returns : goal.returns
@@ -19,7 +19,7 @@ returns c =
     let n = c.len-used.result in
     let p = c.args.pair in
     let m = length-take used xs in
-    let lt = leb-false _ _ (sym c.if-is-full.ensures) in
+    let lt = leb-false _ _ (sym c.if-is_full.ensures) in
     record {
       fixed = simp length-set;
       keeps = λ none o.

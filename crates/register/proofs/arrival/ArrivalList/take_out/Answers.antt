@@ -22,11 +22,11 @@ returns c =
           let e : n ≡ used = omega arith in
           let ok : Distinct (take n xs) = rw e o.1 in
           let lt : i < length (take n xs) = omega arith in
-          (omega arith, rw c.remove-at.ensures (distinct_removed (take n xs) i d ok lt));
+          (omega arith, rw c.remove_at.ensures (distinct_removed (take n xs) i d ok lt));
       strikes = λ k hit o.
           let e : n ≡ used = omega arith in
-          struck_in xs c.remove-at.new.slots used n k i d e o.1 hit.0 (hit.1 d) c.remove-at.ensures;
+          struck_in xs c.remove_at.new.slots used n k i d e o.1 hit.0 (hit.1 d) c.remove_at.ensures;
       leaves = λ k hit o.
           let e : n ≡ used = omega arith in
-          c.remove-at.ensures ∙ ap (λ u. remove (take u xs) i) e ∙ sym (forgotten_at (take used xs) k i d o.1 hit.0 (hit.1 d));
+          c.remove_at.ensures ∙ ap (λ u. remove (take u xs) i) e ∙ sym (forgotten_at (take used xs) k i d o.1 hit.0 (hit.1 d));
     }

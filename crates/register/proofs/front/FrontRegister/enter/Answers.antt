@@ -4,10 +4,10 @@ use Rattle.register.proofs.front.FrontRegister.enter.Goals as goal
 
 pub returns : goal.returns
 returns g c =
-    let p = c.enter-and-learn.ensures in
+    let p = c.enter_and_learn.ensures in
     record {
       fixed = p.fixed;
-      keeps = λ o. (p.keeps o.0, entered_front g.R.Register.pairs g.R.Register.rule c.args.self.now c.enter-and-learn.new.self c.args.reference _ c.args.number c.enter-and-learn.result p.ruled (p.enters o.0) o.1);
+      keeps = λ o. (p.keeps o.0, entered_front g.R.Register.pairs g.R.Register.rule c.args.self.now c.enter_and_learn.new.self c.args.reference _ c.args.number c.enter_and_learn.result p.ruled (p.enters o.0) o.1);
       enters = λ o. p.enters o.0;
       ruled = p.ruled;
     }

@@ -8,11 +8,11 @@ use Rattle.register.proofs.Edits.{entered_at, refused_full}
 use Rattle.register.proofs.Ascents.{sought_none, ascending_entered, ranked_entered}
 use Rattle.register.proofs.ordered.OrderedList.insert.Goals as goal
 
-pub returns-then-is-full : goal.returns-then-is-full
-returns-then-is-full c =
+pub returns-then-is_full : goal.returns-then-is_full
+returns-then-is_full c =
     let ps = take c.args.self.now.used c.args.self.now.slots.now in
     let p = c.args.pair in
-    let full = leb-true _ _ (sym c.if-is-full.ensures) in
+    let full = leb-true _ _ (sym c.if-is_full.ensures) in
     record { fixed = refl; keeps = λ s o. o; enters = λ s o. refused_full _ _ _ _ (sought_none ps _ (key p) p o.1 s) (simp length-take (omega arith)); ranks = λ s o. refl }
 
 pub returns : goal.returns
@@ -24,16 +24,16 @@ returns c =
     let p = c.args.pair in
     let at = c.args.at in
     let m = length-take used xs in
-    let lt = leb-false _ _ (sym c.if-is-full.ensures) in
+    let lt = leb-false _ _ (sym c.if-is_full.ensures) in
     record {
       fixed = omega arith;
       keeps = λ s o.
           let e : n ≡ used = omega arith in
-          (omega arith, rw c.insert-at.ensures (rw e (ascending_entered ps at p o.1 s)));
+          (omega arith, rw c.insert_at.ensures (rw e (ascending_entered ps at p o.1 s)));
       enters = λ s o.
           let e : n ≡ used = omega arith in
-          entered_at _ ps _ at p (sought_none ps _ (key p) p o.1 s) s.0 (omega arith) (c.insert-at.ensures ∙ ap (λ u. insert (take u xs) at p) e);
+          entered_at _ ps _ at p (sought_none ps _ (key p) p o.1 s) s.0 (omega arith) (c.insert_at.ensures ∙ ap (λ u. insert (take u xs) at p) e);
       ranks = λ s o.
           let e : n ≡ used = omega arith in
-          c.insert-at.ensures ∙ ap (λ u. insert (take u xs) at p) e ∙ ranked_entered ps at p o.1 s;
+          c.insert_at.ensures ∙ ap (λ u. insert (take u xs) at p) e ∙ ranked_entered ps at p o.1 s;
     }

@@ -20,11 +20,11 @@ returns c =
       keeps = λ o.
           let e : n ≡ used = omega arith in
           let up : Ascending (take n xs) = rw e o.1 in
-          (omega arith, rw c.remove-at.ensures (ascending_removed (take n xs) i up));
+          (omega arith, rw c.remove_at.ensures (ascending_removed (take n xs) i up));
       strikes = λ k hit o.
           let e : n ≡ used = omega arith in
-          struck_in xs c.remove-at.new.slots used n k i d e (distinct_from_ascending (take used xs) o.1) hit.0 (sought_hit (take used xs) i k d hit) c.remove-at.ensures;
+          struck_in xs c.remove_at.new.slots used n k i d e (distinct_from_ascending (take used xs) o.1) hit.0 (sought_hit (take used xs) i k d hit) c.remove_at.ensures;
       leaves = λ k hit o.
           let e : n ≡ used = omega arith in
-          c.remove-at.ensures ∙ ap (λ u. remove (take u xs) i) e ∙ sym (forgotten_at (take used xs) k i d (distinct_from_ascending (take used xs) o.1) hit.0 (sought_hit (take used xs) i k d hit));
+          c.remove_at.ensures ∙ ap (λ u. remove (take u xs) i) e ∙ sym (forgotten_at (take used xs) k i d (distinct_from_ascending (take used xs) o.1) hit.0 (sought_hit (take used xs) i k d hit));
     }

@@ -8,21 +8,21 @@ use Rattle.register.proofs.reference.Reference.new.Goals as goal
 pub loop-i-preserved : goal.loop-i-preserved
 loop-i-preserved c =
     let t = c.args.text.now in
-    let p = text_parts t (sym c.if-not-is-text.ensures) in
+    let p = text_parts t (sym c.if-not-is_text.ensures) in
     (simp length-set c.loop-i.invariant.0, rw c.loop-i.invariant.1 (copied_more t c.loop-i.i c.loop-i-test.true p.1))
 
-pub invariant-of-result : goal.invariant-of-result
-invariant-of-result c =
+pub invariant_of-result : goal.invariant_of-result
+invariant_of-result c =
     let t = c.args.text.now in
-    let p = text_parts t (sym c.if-not-is-text.ensures) in
+    let p = text_parts t (sym c.if-not-is_text.ensures) in
     let is = copied_all t c.loop-i.bytes c.loop-i.i c.loop-i-test.false c.loop-i.auto.i-end c.loop-i.invariant.1 in
     let P : List ℕ → Type 0 = λ l. T (shaped l) in
-    (subst P (sym is) (padded_shaped t (16 - length t) p.0 p.2), tt)
+    record { ok = subst P (sym is) (padded_shaped t (16 - length t) p.0 p.2) }
 
 pub returns : goal.returns
 returns c =
     let t = c.args.text.now in
-    let good = sym c.if-not-is-text.ensures in
+    let good = sym c.if-not-is_text.ensures in
     let p = text_parts t good in
     let is = copied_all t c.loop-i.bytes c.loop-i.i c.loop-i-test.false c.loop-i.auto.i-end c.loop-i.invariant.1 in
     (good, is, ap unpadded is ∙ unpadded_padded t (16 - length t) p.2)
