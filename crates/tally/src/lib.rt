@@ -1,4 +1,6 @@
 // Tallies: counting that can be taken back.
+#![tactic(auto)]
+
 pub mod ballot;
 pub mod both;
 mod cells;
