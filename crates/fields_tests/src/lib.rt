@@ -1,4 +1,6 @@
 // Examples of texts at the edges of the rules. The expected answers are worked out by hand.
+#![tactic(auto)]
+
 #[cfg(test)]
 mod tests {
     use fields::faults::{TextFault, check_text};
@@ -97,10 +99,10 @@ mod tests {
         let text = b":16R:GENL\r\n:20C::CORP//E1\r\nMORE\r\n:16S:GENL\r\n";
         let mut fields = Fields::of(text);
         let first = fields.next().ok_or("no field")?;
-        assert_eq!(rt; value_of(text, first), b"GENL");
+        assert_eq!(rt; value_of(text, first), b"GENL".as_slice());
         let second = fields.next().ok_or("no field")?;
         assert_eq!(rt; second.start, 11);
-        assert_eq!(rt; value_of(text, second), b"CORP//E1\r\nMORE");
+        assert_eq!(rt; value_of(text, second), b"CORP//E1\r\nMORE".as_slice());
         Ok(())
     }
 }

@@ -1,4 +1,6 @@
 // The formats at their edges, as tables of values with what they spell.
+#![tactic(auto)]
+
 #[cfg(test)]
 mod tests {
     use format::identifiers::*;

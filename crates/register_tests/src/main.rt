@@ -1,4 +1,6 @@
 // Counts what a find costs: pairs compared, in ordered lists of growing size, and through a front.
+#![tactic(auto)]
+
 mod counting;
 #[cfg(test)]
 mod tests;

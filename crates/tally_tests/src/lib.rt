@@ -1,4 +1,6 @@
 // The two tallies side by side, run on examples.
+#![tactic(auto)]
+
 #[cfg(test)]
 mod tests {
     use tally::ballot::Ballot;

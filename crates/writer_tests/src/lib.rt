@@ -1,4 +1,6 @@
 // Examples of writings, refused for each reason that an entry can have, and finished. The expected answers are worked out by hand.
+#![tactic(auto)]
+
 #[cfg(test)]
 mod tests {
     use reader::table::Entry;
