@@ -6,6 +6,7 @@ use reader::faults::ReadingFault;
 use reader::reading::read;
 use reader::table::Entry;
 use std::alloc::AllocError;
+use std::rt::Files;
 use std::{fs, io};
 use writer::filing::{FilingFault, refile};
 
@@ -26,7 +27,7 @@ impl From<AllocError> for Stopped {
 }
 
 // Carries out every line, up to the first that is no command.
-pub fn carry_out(rt: &HostRuntime, day: &str) -> Result<(), Stopped> {
+pub fn carry_out(rt: &(impl Files + Print + AllocGlobal), day: &str) -> Result<(), Stopped> {
     for (i, line) in day.lines().enumerate() {
         if line.is_empty() || line.starts_with('#') {
             continue;
@@ -36,7 +37,11 @@ pub fn carry_out(rt: &HostRuntime, day: &str) -> Result<(), Stopped> {
     Ok(())
 }
 
-fn carry_out_line(rt: &HostRuntime, number: usize, line: &str) -> Result<(), Stopped> {
+fn carry_out_line(
+    rt: &(impl Files + Print + AllocGlobal),
+    number: usize,
+    line: &str,
+) -> Result<(), Stopped> {
     match parse(line) {
         Ok(command) => obey(rt, number, line, command),
         Err(mistake) => {
@@ -46,7 +51,12 @@ fn carry_out_line(rt: &HostRuntime, number: usize, line: &str) -> Result<(), Sto
     }
 }
 
-fn obey(rt: &HostRuntime, number: usize, line: &str, command: Command<'_>) -> Result<(), Stopped> {
+fn obey(
+    rt: &(impl Files + Print + AllocGlobal),
+    number: usize,
+    line: &str,
+    command: Command<'_>,
+) -> Result<(), Stopped> {
     match command {
         Command::Fields(file) => {
             let text = load(rt, number, file)?;
@@ -71,7 +81,11 @@ fn obey(rt: &HostRuntime, number: usize, line: &str, command: Command<'_>) -> Re
 }
 
 // A field table of so many entries. A text has no more fields than bytes, so a larger one is cut at the longest text.
-fn new_table(rt: &HostRuntime, number: usize, entries: usize) -> Result<Vec<Entry>, Stopped> {
+fn new_table(
+    rt: &(impl Print + AllocGlobal),
+    number: usize,
+    entries: usize,
+) -> Result<Vec<Entry>, Stopped> {
     let blank = Entry {
         row: 0,
         start: 0,
@@ -84,14 +98,18 @@ fn new_table(rt: &HostRuntime, number: usize, entries: usize) -> Result<Vec<Entr
 }
 
 // An output of so many bytes, cut likewise.
-fn new_output(rt: &HostRuntime, number: usize, room: usize) -> Result<Vec<u8>, Stopped> {
+fn new_output(
+    rt: &(impl Print + AllocGlobal),
+    number: usize,
+    room: usize,
+) -> Result<Vec<u8>, Stopped> {
     match vec![in rt.alloc(); 0u8; room.min(LONGEST)] {
         Ok(out) => Ok(out),
         Err(_) => out_of_memory(rt, number),
     }
 }
 
-fn out_of_memory<T>(rt: &HostRuntime, number: usize) -> Result<T, Stopped> {
+fn out_of_memory<T>(rt: &impl Print, number: usize) -> Result<T, Stopped> {
     println!(rt;
         "error: line {number}: there is no memory left: free some, and run the day again"
     )?;
@@ -99,7 +117,11 @@ fn out_of_memory<T>(rt: &HostRuntime, number: usize) -> Result<T, Stopped> {
 }
 
 // The bytes of a file that a command names.
-fn load(rt: &HostRuntime, number: usize, file: &str) -> Result<Vec<u8>, Stopped> {
+fn load(
+    rt: &(impl Files + Print + AllocGlobal),
+    number: usize,
+    file: &str,
+) -> Result<Vec<u8>, Stopped> {
     match fs::read(rt, file) {
         Ok(bytes) => Ok(bytes),
         Err(_) => {
@@ -111,7 +133,7 @@ fn load(rt: &HostRuntime, number: usize, file: &str) -> Result<Vec<u8>, Stopped>
     }
 }
 
-fn show_fields(rt: &HostRuntime, text: &[u8]) -> io::Result<()> {
+fn show_fields(rt: &impl Print, text: &[u8]) -> io::Result<()> {
     match check_text(text) {
         Ok(()) => print_fields(rt, text),
         Err(fault) => {
@@ -122,7 +144,7 @@ fn show_fields(rt: &HostRuntime, text: &[u8]) -> io::Result<()> {
 }
 
 fn show_table(
-    rt: &HostRuntime,
+    rt: &impl Print,
     message: u16,
     text: &[u8],
     table: &mut [Entry],
@@ -138,7 +160,7 @@ fn show_table(
 }
 
 fn show_filing(
-    rt: &HostRuntime,
+    rt: &impl Print,
     message: u16,
     text: &[u8],
     table: &mut [Entry],
