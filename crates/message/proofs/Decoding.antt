@@ -2,7 +2,7 @@
 use Rattle.std.proofs.Common.{◌≡◌, ℕ, ◌≤◌, Bool, true, false, ◌&&◌, ◌||◌, eqb, leb, ◌⊎◌, List, [], ◌∷◌, length, is_some, Some, None, codes, Option, sym, refl, ap, ◌∙◌, subst, inl, inr, arith}
 use Rattle.std.proofs.lemmas.Slice.Eq.{bytes_eq-Decides}
 use Rattle.std.proofs.lemmas.Bool.{and_parts, and_from, or_cases, cond-true, eqb-true, le-leb}
-use Rattle.std.specs.List.{slice_get, AllByRecursion as All}
+use Rattle.std.specs.List.{slice_get, AllByRecursion}
 use Rattle.std.specs.Option.{option_map}
 use Rattle.fields.specs.Characters.{set_x, alphanumeric}
 use Rattle.fields.specs.Fields.{fields}
@@ -43,7 +43,7 @@ mapped_there f None h = never h
 mapped_there f (Some a) h = refl
 
 -- what holds of each code of a list holds of what is among them
-pub among_each : (P : List ℕ → Type 0) (ks : List Code) → All (λ k. P (k.0 ∷ k.1 ∷ k.2 ∷ k.3 ∷ [])) ks → (c : List ℕ) → among ks c ≡ true → P c
+pub among_each : (P : List ℕ → Type 0) (ks : List Code) → AllByRecursion (λ k. P (k.0 ∷ k.1 ∷ k.2 ∷ k.3 ∷ [])) ks → (c : List ℕ) → among ks c ≡ true → P c
 among_each P [] a c h = never h
 among_each P (k ∷ ks) a c h = elim (or_cases (spells k c) (among ks c) h) [
   | inl e ↦ subst P ((bytes_eq-Decides _ c).0 e) a.0
@@ -88,7 +88,7 @@ two_qualifiers x y (Some q) h = elim (or_cases (is_qualifier x q) (is_qualifier 
 ]
 
 -- what the formats say of lengths and characters
-all_x_lem : (c : List ℕ) → All (λ b. set_x b ≡ true) c → all_x c ≡ true
+all_x_lem : (c : List ℕ) → AllByRecursion (λ b. set_x b ≡ true) c → all_x c ≡ true
 all_x_lem [] h = refl
 all_x_lem (b ∷ c) h = and_from _ _ h.0 (all_x_lem c h.1)
 
@@ -124,7 +124,7 @@ suits_content has row x one test shape v (q, a, f) =
 
 module _ (rows : List Row) (codes : Codes) (text : List ℕ) (ordered : order_fault rows text ≡ None) (valued : value_fault rows codes text ≡ None) where
   -- the values of a row are as it asks
-  pub values_suit : (r : ℕ) (row : FieldRow) → slice_get rows r ≡ Some (Field row) → All (Suits (codes r) row) (values_of text (table_of rows text) r)
+  pub values_suit : (r : ℕ) (row : FieldRow) → slice_get rows r ≡ Some (Field row) → AllByRecursion (Suits (codes r) row) (values_of text (table_of rows text) r)
   values_suit r row there = suits_all rows codes text r row there (fields text) valued
 
   -- and the first of a required row is there
@@ -132,7 +132,7 @@ module _ (rows : List Row) (codes : Codes) (text : List ℕ) (ordered : order_fa
       → (v : List ℕ) × (value_of text (table_of rows text) r ≡ Some v) × Suits (codes r) row v
   value_there r row there h =
       let n = present rows r h text None tt (fields text) ordered in
-      (n.0, ap first n.2, (subst (λ (l : List (List ℕ)). All (Suits (codes r) row) l) n.2 (values_suit r row there)).0)
+      (n.0, ap first n.2, (subst (λ (l : List (List ℕ)). AllByRecursion (Suits (codes r) row) l) n.2 (values_suit r row there)).0)
 
   -- of a row without qualifiers, the whole value
   pub whole_there : (r : ℕ) (row : FieldRow) → slice_get rows r ≡ Some (Field row) → required rows r ≡ true → qualifiers_of row.qualifiers ≡ []

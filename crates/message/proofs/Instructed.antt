@@ -1,7 +1,7 @@
 -- An instruction that is read says something. Assumes nothing.
 use Rattle.std.proofs.Common.{◌≡◌, ℕ, true, List, [], ◌∷◌, is_some, None, Option, refl, ap, ◌∙◌}
 use Rattle.std.proofs.ByRecursion.{All-weaker}
-use Rattle.std.specs.List.{AllByRecursion as All}
+use Rattle.std.specs.List.{AllByRecursion}
 use Rattle.format.specs.Quantity.{read_quantity}
 use Rattle.format.specs.Simple.{is_reference, is_account, is_option_number}
 use Rattle.format.specs.Texts.{and_then}
@@ -43,13 +43,13 @@ vote_there v s =
 abbrev previous_row : FieldRow
 previous_row = record { mark = Once; tag = tag "20C"; qualifiers = only "PREV"; format = Reference }
 
-previous_there : (vs : List (List ℕ)) → All (Suits (codes_of Mt565 8) previous_row) vs → is_some (previous_of (first vs)) ≡ true
+previous_there : (vs : List (List ℕ)) → AllByRecursion (Suits (codes_of Mt565 8) previous_row) vs → is_some (previous_of (first vs)) ≡ true
 previous_there [] a = refl
 previous_there (v ∷ vs) a =
     let c = suits_content (codes_of Mt565 8) previous_row (qualifier "PREV") refl is_reference (λ v. refl) v a.0 in
     mapped_there _ _ (ap (λ (o : Option (List ℕ)). is_some (and_then o as_reference)) c.1 ∙ reference_there c.0 c.2)
 
-votes_there : (vs : List (List ℕ)) → All (λ v. is_some (vote_of v) ≡ true) vs → is_some (votes_of vs) ≡ true
+votes_there : (vs : List (List ℕ)) → AllByRecursion (λ v. is_some (vote_of v) ≡ true) vs → is_some (votes_of vs) ≡ true
 votes_there [] a = refl
 votes_there (v ∷ vs) a = then_there (vote_of v) _ a.0 (λ w. mapped_there (λ ws. w ∷ ws) (votes_of vs) (votes_there vs a.1))
 

@@ -1,7 +1,7 @@
 -- In a text without a bad value, each value of a field's row has its format, under one of its qualifiers. Assumes nothing.
 use Rattle.std.proofs.Common.{◌≡◌, ℕ, Bool, true, false, cond, eqb, List, [], ◌∷◌, map, length, Some, None, Option, unwrap_or, sym, refl, ap, ◌∙◌}
 use Rattle.std.proofs.lemmas.Bool.{and_parts, eqb-true}
-use Rattle.std.specs.List.{slice_get, AllByRecursion as All}
+use Rattle.std.specs.List.{slice_get, AllByRecursion}
 use Rattle.fields.specs.Fields.{value_in}
 use Rattle.fields.specs.declared.headers.Qualifier.{Qualifier}
 use Rattle.fields.specs.declared.headers.Tag.{Tag}
@@ -47,20 +47,20 @@ module _ (rows : List Row) (codes : Codes) (text : List ℕ) (r : ℕ) (row : Fi
       )
 
   pub suits_all : (fs : List TextField) → value_from rows codes text fs ≡ None
-      → All (Suits (codes r) row) (values_of text (map (entry_of rows text) fs) r)
+      → AllByRecursion (Suits (codes r) row) (values_of text (map (entry_of rows text) fs) r)
   suits_all [] e = tt
   suits_all (f ∷ fs) e = by (field_fits rows codes text f) refl e (suits_all fs)
     where
       -- an entry of the row, and one of another
       on : field_fits rows codes text f ≡ true → (o : Option ℕ) → find_row rows (key_of text f) ≡ o → (b : Bool) → eqb (unwrap_or o (length rows)) r ≡ b
-          → All (Suits (codes r) row) (values_of text (map (entry_of rows text) fs) r)
-          → All (Suits (codes r) row) (cond b (value_in text f ∷ values_of text (map (entry_of rows text) fs) r) (values_of text (map (entry_of rows text) fs) r))
+          → AllByRecursion (Suits (codes r) row) (values_of text (map (entry_of rows text) fs) r)
+          → AllByRecursion (Suits (codes r) row) (cond b (value_in text f ∷ values_of text (map (entry_of rows text) fs) r) (values_of text (map (entry_of rows text) fs) r))
       on h None p b s all = never (sym (ap (λ (o : Option ℕ). number_fits rows codes f.qualifier o (value_in text f)) p) ∙ h)
       on h (Some i) p true s all = (suits_field f h (p ∙ ap {B = Option ℕ} (λ (n : ℕ). Some n) (eqb-true i r s)), all)
       on h (Some i) p false s all = all
 
       by : (b : Bool) → field_fits rows codes text f ≡ b → cond b (value_from rows codes text fs) (Some f.value) ≡ None
-          → (value_from rows codes text fs ≡ None → All (Suits (codes r) row) (values_of text (map (entry_of rows text) fs) r))
-          → All (Suits (codes r) row) (values_of text (map (entry_of rows text) (f ∷ fs)) r)
+          → (value_from rows codes text fs ≡ None → AllByRecursion (Suits (codes r) row) (values_of text (map (entry_of rows text) fs) r))
+          → AllByRecursion (Suits (codes r) row) (values_of text (map (entry_of rows text) (f ∷ fs)) r)
       by true h e all = on h (find_row rows (key_of text f)) refl (eqb (unwrap_or (find_row rows (key_of text f)) (length rows)) r) refl (all e)
       by false h e all = some_none f.value e

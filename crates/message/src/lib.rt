@@ -1,4 +1,6 @@
 // What a message says, as values: an instruction to vote, or the status of one.
+#![tactic(auto)]
+
 mod instructing;
 pub mod instruction;
 pub mod message;

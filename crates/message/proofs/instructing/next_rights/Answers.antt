@@ -10,7 +10,7 @@ returns-in-Some c =
 pub loop-i-preserved : goal.loop-i-preserved
 loop-i-preserved c =
     c.loop-i.invariant
-    ∙ rights_on c.args.text.now c.args.table.now c.loop-i.i _ c.loop-i-test.true c.in-default.ensures
+    ∙ rights_on c.args.text.now c.args.table.now c.loop-i.i _ c.loop-i-test.true c.in_default.ensures
 
 pub returns : goal.returns
 returns c = c.loop-i.invariant ∙ rights_end c.args.text.now c.args.table.now c.loop-i.i c.loop-i-test.false

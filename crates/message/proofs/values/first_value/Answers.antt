@@ -5,7 +5,7 @@ use Rattle.message.proofs.values.first_value.Goals as goal
 
 pub returns-then-entry-row : goal.returns-then-entry-row
 returns-then-entry-row c =
-    ap (λ (v : List ℕ). Some v) c.value-of.ensures
+    ap (λ (v : List ℕ). Some v) c.value_of.ensures
     ∙ sym (c.loop-entry.invariant
     ∙ ap first (values_here c.args.text.now c.args.table.now c.args.row c.loop-entry.entry-index _ c.loop-entry-test.true c.if-entry-row.true))
 

@@ -7,19 +7,19 @@ use Rattle.message.specs.Values.{values_of}
 use Rattle.message.specs.Voting.{vote_of, votes_of, kept_and_count}
 use Rattle.message.proofs.Keeping.{onward, votes_start, votes_here, votes_none, votes_on_lem, votes_end}
 use Rattle.message.proofs.votes.votes.Goals as goal
-use Rattle.message.proofs.votes.votes.Goals.{then-entry+in-ok-vote-of, else-entry}
+use Rattle.message.proofs.votes.votes.Goals.{then-entry+in_ok-vote_of, else-entry}
 
 pub loop-entry-init : goal.loop-entry-init
 loop-entry-init c =
     let e = c.none-votes.ensures in
     (omega (arith, e.1), votes_start c.args.text.now c.args.table.now 26 c.none-votes.result e.0 e.1)
 
-pub returns-in-err-vote-of : goal.returns-in-err-vote-of
-returns-in-err-vote-of c =
-    ap (option_map kept_and_count) c.from-residual.ensures
+pub returns-in_err-vote_of : goal.returns-in_err-vote_of
+returns-in_err-vote_of c =
+    ap (option_map kept_and_count) c.from_residual.ensures
     ∙ sym (c.loop-entry.invariant.1
     ∙ votes_none c.args.text.now c.args.table.now 26 c.loop-entry.entry-index _ c.loop-entry-test.true c.loop-entry.votes
-    c.if-entry.true (c.in-err-vote-of.ensures ∙ ap vote_of c.value-of.ensures))
+    c.if-entry.true (c.in_err-vote_of.ensures ∙ ap vote_of c.value_of.ensures))
 
 pub loop-entry-preserved : goal.loop-entry-preserved
 loop-entry-preserved c =
@@ -27,11 +27,11 @@ loop-entry-preserved c =
     let table = c.args.table.now in
     let i = c.loop-entry.entry-index in
     elim c.if-entry.branch [
-      | then-entry+in-ok-vote-of w ↦ (let n : c.if-entry.votes.count ≡ c.loop-entry.votes.count + 1 = ap (λ (g : GivenVotes). g.count) w.votes-is ∙ w.add.ensures.count in (
+      | then-entry+in_ok-vote_of w ↦ (let n : c.if-entry.votes.count ≡ c.loop-entry.votes.count + 1 = ap (λ (g : GivenVotes). g.count) w.votes-is ∙ w.add.ensures.count in (
         omega (arith, n, c.loop-entry.invariant.0),
         c.loop-entry.invariant.1
-            ∙ votes_here text table 26 i _ c.loop-entry-test.true c.loop-entry.votes c.if-entry.votes w.in-ok-vote-of.field-0 w.if-entry.true
-            (w.in-ok-vote-of.ensures ∙ ap vote_of w.value-of.ensures) (ap given_votes w.votes-is ∙ w.add.ensures.kept) n,
+            ∙ votes_here text table 26 i _ c.loop-entry-test.true c.loop-entry.votes c.if-entry.votes w.in_ok-vote_of.field-0 w.if-entry.true
+            (w.in_ok-vote_of.ensures ∙ ap vote_of w.value_of.ensures) (ap given_votes w.votes-is ∙ w.add.ensures.kept) n,
       ))
       | else-entry w ↦ (let n : c.if-entry.votes.count ≡ c.loop-entry.votes.count = ap (λ (g : GivenVotes). g.count) w.votes-is in (
         omega (arith, n, c.loop-entry.invariant.0),
