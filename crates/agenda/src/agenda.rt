@@ -1,6 +1,6 @@
 // The agenda: a table with a place for each question.
 ghost use Rattle.std.specs.Prelude.{◌≡◌};
-ghost use Rattle.agenda.specs.Agendas.{asked, place_of, has_cell, verdict as fillVerdict, filled as fillLeaves, blank};
+ghost use Rattle.agenda.specs.Agendas.{asked, place_of, has_cell, verdict as fill_verdict, filled as fill_leaves, blank};
 
 use crate::faults::AgendaFault;
 use crate::question::{MOST_QUESTIONS, Question};
@@ -40,8 +40,8 @@ impl Agenda {
 
     // Fills in a question: one that an agenda can have, and whose number is new. Refused, it leaves the agenda as found.
     pub fn fill(&mut self, question: Question) -> Result<(), AgendaFault>
-        ensures answer { result ≡ fillVerdict self.old.questions question }
-        ensures after { self.new.questions ≡ fillLeaves self.old.questions question result }
+        ensures answer { result ≡ fill_verdict self.old.questions question }
+        ensures after { self.new.questions ≡ fill_leaves self.old.questions question result }
     {
         if !question.is_fit() {
             return Err(AgendaFault::Question);

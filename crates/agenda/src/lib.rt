@@ -1,4 +1,6 @@
 // The agenda of a meeting: its questions, the cells in which votes are cast, which votes of a message are good, and whether their sums hold.
+#![tactic(auto)]
+
 pub mod agenda;
 pub mod casting;
 pub mod faults;

@@ -1,7 +1,7 @@
 // The sums of an instruction's votes.
 ghost use Rattle.std.specs.Prelude.{◌≡◌, ℕ, ◌<◌, ◌≤◌, length, Option as Maybe};
 ghost use Rattle.agenda.specs.Votes.{votes_of};
-ghost use Rattle.agenda.specs.Sums.{SumsJudged, balanced, count_fits, holds_on, sum_on, unbalanced as unbalancedOf, unbalanced_from, votes_on};
+ghost use Rattle.agenda.specs.Sums.{SumsJudged, balanced, count_fits, holds_on, sum_on, unbalanced as unbalanced_of, unbalanced_from, votes_on};
 
 use crate::agenda::Agenda;
 use crate::question::{MOST_QUESTIONS, Question};
@@ -12,7 +12,7 @@ use tally::vote::Vote;
 // The least question on which the sum does not hold. Where there are votes on a question, their quantities sum to its multiplier times the
 // holding, and an ordinary question has one vote.
 pub fn unbalanced(agenda: &Agenda, holding: u64, votes: &Votes) -> Option<u8>
-    ensures value { result ≡ unbalancedOf agenda.now.questions holding (votes_of votes.now) }
+    ensures value { result ≡ unbalanced_of agenda.now.questions holding (votes_of votes.now) }
     ensures judged { SumsJudged agenda.now.questions holding (votes_of votes.now) result }
     ensures only { (p : Maybe ℕ) → SumsJudged agenda.now.questions holding (votes_of votes.now) p → p ≡ result }
 {
@@ -22,7 +22,7 @@ pub fn unbalanced(agenda: &Agenda, holding: u64, votes: &Votes) -> Option<u8>
 // The least of all questions that an agenda has a place for.
 fn least_unbalanced(agenda: &Agenda, holding: u64, votes: &[Vote]) -> Option<u8>
     requires { length votes.now ≤ 64 }
-    ensures { result ≡ unbalancedOf agenda.now.questions holding votes.now }
+    ensures { result ≡ unbalanced_of agenda.now.questions holding votes.now }
 {
     least_up_to(agenda, holding, votes, MOST_QUESTIONS as u8)
 }
