@@ -1,17 +1,15 @@
 -- What carrying out an order comes to for the book.
-use Rattle.std.proofs.Common.{◌≡◌, ℕ, ◌+◌, ◌<◌, ◌≤◌, true, false, cond, ◌⊎◌, List, [], ◌∷◌, length, set, Some, None, Option, sym, refl, ap, ◌∙◌, subst, inl, inr, arith}
+use Rattle.std.proofs.Common.{◌≡◌, ℕ, ◌+◌, cond, ◌⊎◌, List, set, Some, None, Option, sym, ap, ◌∙◌, inl, inr, arith}
 use Rattle.std.specs.List.{slice_get}
-use Rattle.std.specs.Option.{option_map}
 use Rattle.std.specs.Str.{bytes_eq}
 use Rattle.tally.specs.Scale.{Scale, Group, joined}
 use Rattle.book.specs.declared.record.State.{State}
 use Rattle.book.specs.declared.faults.BookFault.{BookFault}
 use Rattle.book.specs.Keyed.{put}
-use Rattle.book.specs.Book.{Terms, Instruction, Situation, at, found, held, in_record, instructions}
+use Rattle.book.specs.Book.{Terms, Instruction, Situation, found, held, in_record}
 use Rattle.book.specs.Orders.{Ordered, lodged, after}
-use Rattle.book.specs.Orders.Ordered.{lodge, cancel, report}
-use Rattle.book.specs.Questions.{Question, Outcome}
-use Rattle.book.specs.Storage.{Paired, Filed, Staying, Acted}
+use Rattle.book.specs.Orders.Ordered.{lodge}
+use Rattle.book.specs.Storage.{Filed, Acted}
 use Rattle.book.specs.Moves.{Ending, Placing}
 use Rattle.book.specs.Acting.{restated}
 use Rattle.book.proofs.Keys.{cases_text, put_here, put_apart}

@@ -1,5 +1,5 @@
 -- Orders carried out on a register, a tally and records.
-use Rattle.std.proofs.Common.{◌≡◌, ℕ, ◌+◌, ◌<◌, ◌≤◌, min, true, false, cond, List, [], ◌∷◌, length, set, Some, None, Option, sym, refl, ap, ◌∙◌, subst, arith}
+use Rattle.std.proofs.Common.{◌≡◌, ℕ, List, Some, None, Option, sym, refl, ap, ◌∙◌, subst, arith}
 use Rattle.std.specs.List.{slice_get}
 use Rattle.std.specs.Option.{option_map}
 use Rattle.register.specs.declared.interface.Register as Register
@@ -10,15 +10,13 @@ use Rattle.tally.specs.declared.interface.Tally as Tally
 use Rattle.tally.specs.Scale.{Scale, Group}
 use Rattle.book.specs.declared.record.State.{State}
 use Rattle.book.specs.declared.record.Record.{Record}
-use Rattle.book.specs.declared.status.StatusEvent.{StatusEvent}
 use Rattle.book.specs.Keyed.{put}
 use Rattle.book.specs.States.{event_of, turned}
 use Rattle.book.specs.Book.{Terms, Instruction, Situation, at, found, meaning, meanings, instructions}
-use Rattle.book.specs.Orders.{Claimed, Ordered, asked, after_event, eventually, after}
+use Rattle.book.specs.Orders.{Claimed, asked, eventually, after}
 use Rattle.book.specs.Orders.Ordered.{lodge, cancel, report}
-use Rattle.book.specs.Questions.{Outcome, questions}
 use Rattle.book.specs.Storage.{Filed, Acted}
-use Rattle.book.specs.Moves.{Ending, Placing, Ends, Places}
+use Rattle.book.specs.Moves.{Placing, Ends, Places}
 use Rattle.book.specs.Desk.{told, situation, Led}
 use Rattle.book.specs.Acting.{restated, Restates, Asks, Acts}
 use Rattle.book.proofs.Leading.{led_here, led_on}

@@ -1,13 +1,12 @@
 -- One record changes, with the pair of its reference: everything belongs together again, and one reference is found otherwise.
-use Rattle.std.proofs.Common.{◌≡◌, ℕ, zero, suc, ◌+◌, ◌<◌, ◌⊎◌, List, [], ◌∷◌, length, set, Some, None, Option, sym, refl, ap, ◌∙◌, subst, inl, inr, arith, length-set}
+use Rattle.std.proofs.Common.{◌≡◌, ℕ, ◌+◌, List, length, set, Some, None, Option, sym, refl, ap, ◌∙◌, subst, inl, inr, arith, length-set}
 use Rattle.std.specs.List.{slice_get}
 use Rattle.std.proofs.lemmas.Bool.{cases_eq}
-use Rattle.register.specs.Runs.{View}
-use Rattle.tally.specs.Scale.{Scale, Group, joined}
+use Rattle.tally.specs.Scale.{Scale, Group}
 use Rattle.tally.proofs.Joining.{cancel}
 use Rattle.book.specs.Keyed.{put}
 use Rattle.book.specs.Book.{Instruction, Situation, found, held, in_record, instructions}
-use Rattle.book.specs.Storage.{Paired, Filed, Staying}
+use Rattle.book.specs.Storage.{Filed, Staying}
 use Rattle.book.proofs.Keys.{cases_text, put_here, put_apart}
 use Rattle.book.proofs.Places.{nth_set_here, nth_set_apart, nth_below}
 use Rattle.book.proofs.Weights.{size_of, weigh, total, count_set, total_set}

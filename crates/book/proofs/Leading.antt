@@ -1,13 +1,13 @@
 -- A register led on by its own rule: one call, and one list of calls behind another.
-use Rattle.std.proofs.Common.{◌≡◌, ℕ, List, [], ◌∷◌, ◌++◌, Option, sym, refl, ap, ◌∙◌, subst}
+use Rattle.std.proofs.Common.{◌≡◌, ℕ, List, [], ◌∷◌, ◌++◌, Option, refl, ap, ◌∙◌, subst}
 use mathlib.Core.Path.{fun_ext}
 use Rattle.register.specs.declared.interface.Register as Register
 use Rattle.register.specs.declared.call.Call.{Call}
 use Rattle.register.specs.declared.call.Answer.{Answer}
 use Rattle.register.specs.Pairs.{Pair, look}
 use Rattle.register.specs.Sets.{Alike}
-use Rattle.register.specs.Runs.{View, view_of, Ran}
-use Rattle.book.specs.Desk.{Reached, Led}
+use Rattle.register.specs.Runs.{view_of, Ran}
+use Rattle.book.specs.Desk.{Led}
 
 -- sets that are alike are one view
 pub alike_view : (ps qs : List Pair) → Alike ps qs → view_of qs ≡ view_of ps

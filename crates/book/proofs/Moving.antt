@@ -1,16 +1,15 @@
 -- What a striking with a taking back, and an entering with an adding, come to for the book.
-use Rattle.std.proofs.Common.{◌≡◌, ℕ, ◌+◌, ◌<◌, Bool, true, false, cond, ◌&&◌, ltb, List, [], ◌∷◌, length, set, is_some, is_ok, Some, None, Ok, Err, Option, Result, sym, refl, ap, ◌∙◌, subst, arith, lt-ltb}
+use Rattle.std.proofs.Common.{◌≡◌, ℕ, ◌+◌, ◌<◌, Bool, true, cond, ◌&&◌, List, length, set, is_some, is_ok, Some, None, Ok, Err, Option, Result, sym, refl, ap, ◌∙◌, arith, lt-ltb}
 use Rattle.std.specs.List.{slice_get}
 use Rattle.std.specs.Str.{bytes_eq}
 use Rattle.register.specs.declared.call.EnterRefusal.{EnterRefusal}
 use Rattle.register.specs.Pairs.{Pair, look}
 use Rattle.register.specs.Sets.{Struck, Entered, verdict}
-use Rattle.register.specs.Runs.{View, view_of}
-use Rattle.tally.specs.Scale.{Scale, Group, joined, plus_all}
-use Rattle.book.specs.Keyed.{put}
-use Rattle.book.specs.Book.{Terms, Instruction, Situation, at, found, held, in_record, instructions}
+use Rattle.register.specs.Runs.{view_of}
+use Rattle.tally.specs.Scale.{Scale, Group, plus_all}
+use Rattle.book.specs.Book.{Terms, Instruction, Situation, at, found, held, in_record}
 use Rattle.book.specs.Orders.{lodged}
-use Rattle.book.specs.Storage.{Paired, Filed, Staying}
+use Rattle.book.specs.Storage.{Filed}
 use Rattle.book.specs.Moves.{Ending, Placing}
 use Rattle.book.proofs.Filing.{Change, refiled, refound, staying, here}
 

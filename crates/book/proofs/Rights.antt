@@ -1,5 +1,5 @@
 -- Rights identifiers are the same exactly where their parts are.
-use Rattle.std.proofs.Common.{◌≡◌, ℕ, true, List, Decides, sym, refl, ap, ◌∙◌}
+use Rattle.std.proofs.Common.{◌≡◌, ℕ, List, Decides, ap, ◌∙◌}
 use Rattle.std.specs.Str.{bytes_eq}
 use Rattle.std.proofs.lemmas.Slice.Eq.{bytes_eq-Decides}
 use Rattle.std.proofs.lemmas.Bool.Decides.{Decides-and, Decides-like}

@@ -1,5 +1,5 @@
 -- The verdict on an order is the first question that is answered no.
-use Rattle.std.proofs.Common.{◌≡◌, ℕ, ◌<◌, ◌≤◌, Bool, true, false, cond, ◌&&◌, eqb, ltb, ◌⊎◌, List, [], ◌∷◌, length, is_some, Some, None, Ok, Err, Decides, Option, Result, sym, refl, ap, ◌∙◌, subst, inl, inr, arith, Bor}
+use Rattle.std.proofs.Common.{◌≡◌, ℕ, ◌<◌, Bool, true, false, cond, ◌&&◌, eqb, ltb, List, [], ◌∷◌, is_some, Some, None, Ok, Decides, Option, refl, ap, ◌∙◌, subst, inl, inr, arith, Bor}
 use Rattle.std.specs.List.{slice_get}
 use Rattle.std.specs.Option.{option_map}
 use Rattle.std.specs.Str.{bytes_eq}
@@ -7,7 +7,7 @@ use Rattle.std.proofs.lemmas.Bool.{ltb-true, ltb-false}
 use Rattle.std.proofs.lemmas.Slice.Eq.{bytes_eq-Decides}
 use Rattle.std.proofs.lemmas.Bool.Decides.{Decides-and, Decides-like, Decides-eqb}
 use Rattle.register.specs.Runs.{View}
-use Rattle.message.specs.Instructions.{RightsText, same_rights}
+use Rattle.message.specs.Instructions.{same_rights}
 use Rattle.message.specs.declared.status.Process.{Process}
 use Rattle.message.specs.declared.status.Process.TheVariants as P
 use Rattle.message.specs.declared.status.StatusCode.{StatusCode}
@@ -15,10 +15,10 @@ use Rattle.book.specs.declared.record.Standing.{Standing}
 use Rattle.book.specs.declared.faults.BookFault.{BookFault}
 use Rattle.book.specs.declared.faults.BookFault.TheVariants.{AlreadyStanding, NotStanding, CancellationAsked, Differs, RightsTaken, Full, CancellationNotAsked}
 use Rattle.book.specs.States.{is_asked}
-use Rattle.book.specs.Book.{Terms, Instruction, held, in_record, finds_in, instructions, instruction_of}
+use Rattle.book.specs.Book.{Terms, Instruction, held, in_record, finds_in, instruction_of}
 use Rattle.book.specs.Orders.{Claimed, Ordered}
 use Rattle.book.specs.Orders.Ordered.{lodge, cancel, report}
-use Rattle.book.specs.Questions.{Question, ask, Outcome, questions, refusal, Agrees, IfFound, Stands}
+use Rattle.book.specs.Questions.{ask, Outcome, questions, refusal, Agrees, IfFound}
 use Rattle.book.specs.Verdicts.{shared_in, lodging_fault, replacement_fault, agrees, cancellation_fault, may_report, report_fault, verdict}
 use Rattle.book.specs.Storage.{Paired}
 use Rattle.book.specs.Judging.{answered}

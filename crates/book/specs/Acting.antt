@@ -5,7 +5,7 @@ use Rattle.register.specs.declared.interface.Register as Register
 use Rattle.tally.specs.declared.interface.Tally as Tally
 use Rattle.book.specs.declared.record.State.{State}
 use Rattle.book.specs.declared.record.Record.{Record}
-use Rattle.book.specs.Book.{Instruction, Situation, found, meanings}
+use Rattle.book.specs.Book.{Instruction, found}
 use Rattle.book.specs.Orders.{Ordered, asked}
 use Rattle.book.specs.Questions.{Outcome, questions, subject}
 use Rattle.book.specs.Storage.{Filed, Acted}

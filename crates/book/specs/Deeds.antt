@@ -6,7 +6,6 @@ use Rattle.book.specs.declared.status.StatusEvent.TheVariants as E
 use Rattle.book.specs.declared.acting.Taken.{Taken}
 use Rattle.book.specs.declared.acting.Taken.TheVariants as T
 use Rattle.book.specs.States.{event_of}
-use Rattle.book.specs.Book.{Terms}
 use Rattle.book.specs.Orders.{Ordered}
 use Rattle.book.specs.Orders.Ordered.{lodge, cancel, report}
 

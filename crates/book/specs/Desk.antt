@@ -1,5 +1,5 @@
 -- What is lent to each call: a register, a tally and the records. Assumes nothing.
-use Rattle.std.specs.Prelude.{◌≡◌, ℕ, min, List, length, Some, None, Ok, Err, Option, Result}
+use Rattle.std.specs.Prelude.{◌≡◌, ℕ, min, List, length, Some, None, Ok, Option, Result}
 use Rattle.register.specs.declared.interface.Register as Register
 use Rattle.register.specs.declared.call.Call.{Call}
 use Rattle.register.specs.declared.call.Answer.{Answer}
@@ -11,7 +11,7 @@ use Rattle.book.specs.Book.{Situation, at, meanings, finds_in}
 use Rattle.book.specs.Orders.{Ordered}
 use Rattle.book.specs.Questions.{Outcome, questions, refusal, subject}
 use Rattle.book.specs.Verdicts.{verdict, shared_in}
-use Rattle.book.specs.Storage.{Paired, Filed, Acted}
+use Rattle.book.specs.Storage.{Paired, Filed}
 
 -- the record of the reference, if there is one
 abbrev pub record_of : View → Option (List ℕ) → Option ℕ

@@ -1,11 +1,11 @@
 -- How an order is judged, kind by kind. Assumes nothing.
-use Rattle.std.specs.Prelude.{◌≡◌, ℕ, List, length, is_some, Some, None, Ok, Err, Option, Result}
+use Rattle.std.specs.Prelude.{◌≡◌, ℕ, List, length, Some, None, Ok, Err, Option, Result}
 use Rattle.register.specs.declared.interface.Register as Register
 use Rattle.message.specs.declared.status.Process.{Process}
 use Rattle.message.specs.declared.status.StatusCode.{StatusCode}
 use Rattle.book.specs.declared.record.Record.{Record}
 use Rattle.book.specs.declared.faults.BookFault.{BookFault}
-use Rattle.book.specs.Book.{Terms, Instruction, meanings, finds_in, instructions}
+use Rattle.book.specs.Book.{Terms, meanings, finds_in, instructions}
 use Rattle.book.specs.Orders.{Claimed, Ordered}
 use Rattle.book.specs.Orders.Ordered.{lodge, cancel, report}
 use Rattle.book.specs.Questions.{subject}

@@ -1,5 +1,5 @@
 -- The moves of the book: finding a record, emptying one, filling one. Assumes nothing.
-use Rattle.std.specs.Prelude.{◌≡◌, ℕ, ◌+◌, ◌<◌, List, Some, None, Option}
+use Rattle.std.specs.Prelude.{◌≡◌, ℕ, ◌+◌, ◌<◌, List, Some, None}
 use Rattle.std.specs.List.{slice_get}
 use Rattle.register.specs.declared.interface.Register as Register
 use Rattle.tally.specs.Scale.{Scale}

@@ -6,7 +6,7 @@ use Rattle.message.specs.declared.status.Process.TheVariants.{Cancellation}
 use Rattle.book.specs.declared.faults.BookFault.{BookFault}
 use Rattle.book.specs.declared.faults.BookFault.TheVariants.{AlreadyStanding, NotStanding, CancellationAsked, Differs, RightsTaken, Full, CancellationNotAsked}
 use Rattle.book.specs.States.{is_asked}
-use Rattle.book.specs.Book.{Terms, Instruction}
+use Rattle.book.specs.Book.{Instruction}
 use Rattle.book.specs.Orders.{Claimed, Ordered}
 use Rattle.book.specs.Orders.Ordered.{lodge, cancel, report}
 

@@ -1,5 +1,5 @@
 -- How the register, the records and the tally of a meeting belong together between two calls. Assumes nothing.
-use Rattle.std.specs.Prelude.{◌≡◌, ℕ, min, List, length, Some, None, Option, ◌≢◌}
+use Rattle.std.specs.Prelude.{◌≡◌, ℕ, List, length, Some, None, Option, ◌≢◌}
 use Rattle.std.specs.List.{slice_get}
 use Rattle.register.specs.Runs.{View}
 use Rattle.tally.specs.Scale.{Scale, joined}

@@ -1,7 +1,7 @@
 // Why a message is not taken.
 ghost use Rattle.std.specs.Prelude.{◌≡◌};
 ghost use Rattle.book.specs.Faults.{number_of, place_of, origin_of};
-ghost use Rattle.book.specs.declared.faults.BookFault.TheVariants.{Reading as ofReading};
+ghost use Rattle.book.specs.declared.faults.BookFault.TheVariants.{Reading as of_reading};
 
 use reader::faults::ReadingFault;
 
@@ -86,7 +86,7 @@ impl BookFault {
 }
 
 impl From<ReadingFault> for BookFault {
-    ghost from_gives = { λ e r. r ≡ ofReading e };
+    ghost from_gives = { λ e r. r ≡ of_reading e };
 
     fn from(fault: ReadingFault) -> BookFault {
         BookFault::Reading(fault)

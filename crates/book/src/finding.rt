@@ -3,7 +3,7 @@ ghost use Rattle.std.specs.Prelude.{◌≡◌, length};
 ghost use Rattle.std.specs.Option.{option_map};
 ghost use Rattle.register.specs.Spelling.{spelling};
 ghost use Rattle.book.specs.Book.{instruction_of, instructions, meanings};
-ghost use Rattle.book.specs.Findings.{finding as findingOf, Tells};
+ghost use Rattle.book.specs.Findings.{finding as finding_of, Tells};
 ghost use Rattle.book.specs.Desk.{Led};
 
 use crate::moves::{count_standing, look_up, standing_in};
@@ -19,7 +19,7 @@ pub struct Finding {
 }
 
 fn tell(standing: Option<&Standing>) -> Option<Finding>
-    ensures { result ≡ option_map (λ x. findingOf (instruction_of x.now)) standing.entry }
+    ensures { result ≡ option_map (λ x. finding_of (instruction_of x.now)) standing.entry }
 {
     match standing {
         Some(standing) => Some(Finding {

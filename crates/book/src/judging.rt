@@ -5,7 +5,7 @@ ghost use Rattle.register.specs.Spelling.{spelling};
 ghost use Rattle.message.specs.Instructions.{rights_of};
 ghost use Rattle.book.specs.Book.{instruction_of, terms_of};
 ghost use Rattle.book.specs.Orders.{claimed, ordered};
-ghost use Rattle.book.specs.Verdicts.{agrees as claimHolds, may_report, lodging_fault, replacement_fault, cancellation_fault, report_fault};
+ghost use Rattle.book.specs.Verdicts.{agrees as claim_holds, may_report, lodging_fault, replacement_fault, cancellation_fault, report_fault};
 ghost use Rattle.book.specs.Desk.{Led, InOrder, Judged};
 ghost use Rattle.book.specs.Judging.{answered, JudgesLodging, JudgesReplacement, JudgesCancellation, JudgesReport, Judges};
 
@@ -60,7 +60,7 @@ fn replacement_fault(
 
 // Has the instruction the rights identifier, account, option and holding that a cancellation claims?
 fn claim_holds(lodging: &Lodging, claim: &Claim) -> bool
-    ensures { result ≡ claimHolds (terms_of lodging.now) (claimed claim.now) }
+    ensures { result ≡ claim_holds (terms_of lodging.now) (claimed claim.now) }
 {
     lodging.rights.is(&claim.rights)
         && lodging.account.is(&claim.account)

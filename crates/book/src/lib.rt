@@ -1,4 +1,6 @@
 // The book of a meeting: which instructions stand, in which records, and what a message does to them.
+#![tactic(auto)]
+
 pub mod acting;
 pub mod faults;
 pub mod finding;

@@ -1,5 +1,5 @@
 -- The record that is written means the instruction in its new state.
-use Rattle.std.proofs.Common.{◌≡◌, ℕ, List, set, Some, None, Option, sym, refl, ap, ◌∙◌}
+use Rattle.std.proofs.Common.{◌≡◌, set, Some, ap, ◌∙◌}
 use Rattle.book.specs.declared.record.Record.TheVariants.{Holds}
 use Rattle.book.specs.Book.{Instruction, held, meaning, meanings, instruction_of}
 use Rattle.book.specs.Acting.{restated}

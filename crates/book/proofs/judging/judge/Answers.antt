@@ -1,6 +1,5 @@
 -- The verdict, and that it is the first question answered no.
-use Rattle.std.proofs.Common.{◌≡◌, ℕ, Ok, Option, Result, sym, refl, ap, ◌∙◌, subst}
-use Rattle.book.specs.declared.faults.BookFault.{BookFault}
+use Rattle.std.proofs.Common.{◌≡◌, ℕ, sym, ap, ◌∙◌, subst}
 use Rattle.book.specs.Book.{meanings, finds_in}
 use Rattle.book.specs.Orders.{ordered, Ordered}
 use Rattle.book.specs.Questions.{Outcome, questions, refusal, subject}
@@ -12,15 +11,15 @@ use Rattle.book.proofs.judging.judge.Goals as goal
 
 pub returns : goal.returns
 returns g c =
-    let k = c.judge-by-kind.ensures in
+    let k = c.judge_by_kind.ensures in
     let r = c.args.register.now in
     let rs = c.args.records.now in
     let o : Ordered = ordered c.args.order.now in
     record {
       led = k.led;
       judged = λ h.
-          let a : c.judge-by-kind.result ≡ answered (fault g.R.Register r rs o) (record_of (told g.R.Register r) (subject o)) = k.answer h.0 in
-          let v : refusal c.judge-by-kind.result ≡ verdict (finds_in (told g.R.Register r) (meanings rs)) (shared_in (meanings rs)) (told g.R.Register r).size (room_for g.R.Register r rs) o =
+          let a : c.judge_by_kind.result ≡ answered (fault g.R.Register r rs o) (record_of (told g.R.Register r) (subject o)) = k.answer h.0 in
+          let v : refusal c.judge_by_kind.result ≡ verdict (finds_in (told g.R.Register r) (meanings rs)) (shared_in (meanings rs)) (told g.R.Register r).size (room_for g.R.Register r rs) o =
           ap refusal a ∙ refusal_answered (fault g.R.Register r rs o) (record_of (told g.R.Register r) (subject o)) ∙ ap (λ (n : ℕ). verdict (finds_in (told g.R.Register r) (meanings rs)) (shared_in (meanings rs)) n (room_for g.R.Register r rs) o) (sym h.1.many) in
           record {
             ordered = k.keeps h.0;

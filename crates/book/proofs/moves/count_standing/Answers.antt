@@ -1,12 +1,12 @@
 -- Each record passed is counted where it holds an instruction.
-use Rattle.std.proofs.Common.{◌≡◌, ℕ, ◌+◌, ◌≤◌, List, length, take, Some, None, Option, sym, refl, ap, ◌∙◌, add-one, arith}
+use Rattle.std.proofs.Common.{◌≡◌, ℕ, ◌+◌, List, length, take, ap, ◌∙◌, add-one, arith}
 use Rattle.std.proofs.lemmas.List.{take_all}
 use Rattle.book.specs.declared.record.Record.{Record}
-use Rattle.book.specs.Book.{Instruction, meaning, meanings, instructions}
+use Rattle.book.specs.Book.{meaning, meanings, instructions}
 use Rattle.book.proofs.Weights.{size_of}
 use Rattle.book.proofs.Meant.{meant_at, count_take}
 use Rattle.book.proofs.moves.count_standing.Goals as goal
-use Rattle.book.proofs.moves.count_standing.Goals.{in-Holds, in-default}
+use Rattle.book.proofs.moves.count_standing.Goals.{in-Holds, in_default}
 
 pub loop-record-preserved : goal.loop-record-preserved
 loop-record-preserved c =
@@ -18,7 +18,7 @@ loop-record-preserved c =
     let i1 = c.loop-record.invariant.1 in
     elim c.match-record.branch [
       | in-Holds w ↦ (let is = ap (λ (r : Record). size_of (meaning r)) w.in-Holds.is in (omega (arith, w.count-is), omega (arith, w.count-is)))
-      | in-default w ↦ (let is = ap (λ (r : Record). size_of (meaning r)) w.in-default.is in (omega (arith, w.count-is), omega (arith, w.count-is)))
+      | in_default w ↦ (let is = ap (λ (r : Record). size_of (meaning r)) w.in_default.is in (omega (arith, w.count-is), omega (arith, w.count-is)))
     ]
 
 pub returns : goal.returns

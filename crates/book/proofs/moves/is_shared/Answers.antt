@@ -1,14 +1,14 @@
 -- Each record passed holds no instruction with these rights, so what is left decides.
-use Rattle.std.proofs.Common.{◌≡◌, ℕ, suc, ◌+◌, Bool, true, false, ◌||◌, List, [], drop, Option, sym, refl, ap, ◌∙◌, add-one}
+use Rattle.std.proofs.Common.{◌≡◌, ℕ, suc, Bool, true, false, ◌||◌, List, drop, sym, ap, ◌∙◌, add-one}
 use Rattle.std.proofs.lemmas.List.{drop_all}
 use Rattle.message.specs.Instructions.{RightsText, rights_of}
 use Rattle.book.specs.declared.record.Record.{Record}
-use Rattle.book.specs.Book.{Instruction, meaning, meanings}
+use Rattle.book.specs.Book.{meaning, meanings}
 use Rattle.book.specs.Verdicts.{shared_in}
 use Rattle.book.proofs.Meant.{meant_at}
 use Rattle.book.proofs.Sharing.{has_rights, shared_drop}
 use Rattle.book.proofs.moves.is_shared.Goals as goal
-use Rattle.book.proofs.moves.is_shared.Goals.{in-Holds+else-is, in-default}
+use Rattle.book.proofs.moves.is_shared.Goals.{in-Holds+else-is, in_default}
 
 pub returns-then-is : goal.returns-then-is
 returns-then-is c =
@@ -27,7 +27,7 @@ loop-record-preserved c =
     let at = meant_at rs k c.record-item.result c.loop-record-test.true c.record-item.is in
     let has : has_rights (meaning c.record-item.result) w ≡ false = elim c.match-record.branch [
       | in-Holds+else-is v ↦ ap (λ (r : Record). has_rights (meaning r) w) v.in-Holds.is ∙ sym v.if-is.ensures
-      | in-default v ↦ ap (λ (r : Record). has_rights (meaning r) w) v.in-default.is
+      | in_default v ↦ ap (λ (r : Record). has_rights (meaning r) w) v.in_default.is
     ] in
     rw add-one (sym (sym c.loop-record.invariant ∙ shared_drop rs k (meaning c.record-item.result) w at ∙ ap (λ (b : Bool). b || shared_in (meanings (drop (suc k) rs)) w) has))
 

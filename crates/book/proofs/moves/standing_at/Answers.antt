@@ -1,6 +1,5 @@
 -- What a record means, at its place among the meanings.
-use Rattle.std.proofs.Common.{◌≡◌, sym, ap, ◌∙◌}
-use Rattle.book.specs.declared.record.Record.{Record}
+use Rattle.std.proofs.Common.{sym, ap, ◌∙◌}
 use Rattle.book.specs.Book.{held, meaning}
 use Rattle.book.proofs.Meant.{meant_at, meant_past}
 use Rattle.book.proofs.moves.standing_at.Goals as goal

@@ -1,8 +1,8 @@
 -- Each record passed is not empty.
-use Rattle.std.proofs.Common.{◌≡◌, ℕ, ◌+◌, ◌≤◌, length, take, Some, None, Option, sym, refl, ap, ◌∙◌, inl, inr, arith}
+use Rattle.std.proofs.Common.{◌≡◌, ℕ, Some, None, ap, ◌∙◌, inl, inr, arith}
 use Rattle.std.proofs.lemmas.Bool.{cases_eq}
 use Rattle.book.specs.declared.record.Record.{Record}
-use Rattle.book.specs.Book.{Instruction, meaning, meanings, instructions}
+use Rattle.book.specs.Book.{meaning, meanings}
 use Rattle.book.proofs.Places.{nth_below, length_map}
 use Rattle.book.proofs.Meant.{meant_at}
 use Rattle.book.proofs.moves.vacant.Goals as goal
@@ -17,7 +17,7 @@ pub loop-n-preserved : goal.loop-n-preserved
 loop-n-preserved c = λ n h e. elim (cases_eq n c.loop-n.n) [
   | inl same ↦
       let at = meant_at c.args.records.now c.loop-n.n c.index-records-n.result c.loop-n-test.true c.index-records-n.is in
-      let is = ap meaning c.in-default.is in
+      let is = ap meaning c.in_default.is in
       let z : ◌≡◌ {A = ℕ} 0 1 = cc in omega arith
   | inr other ↦ c.loop-n.invariant n (omega arith) e
 ]
