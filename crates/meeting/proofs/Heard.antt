@@ -1,5 +1,5 @@
 -- What is heard is what the text says, and all its votes up to the 64th are kept.
-use Rattle.std.proofs.Common.{◌≡◌, ℕ, min, List, [], ◌∷◌, length, take, Some, None, Ok, Option, sym, refl, ap, ◌∙◌, arith, length-take}
+use Rattle.std.proofs.Common.{◌≡◌, ℕ, min, List, length, Some, None, Ok, Option, sym, refl, ap, ◌∙◌, arith, length-take}
 use Rattle.std.specs.Option.{option_map}
 use Rattle.format.specs.declared.votes.VoteText.{VoteText}
 use Rattle.format.specs.Texts.{and_then}

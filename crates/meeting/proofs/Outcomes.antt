@@ -1,7 +1,7 @@
 -- The fault of a message by itself is the first question about it that is answered no.
-use Rattle.std.proofs.Common.{◌≡◌, ℕ, ◌≤◌, min, Bool, true, false, cond, ◌&&◌, eqb, leb, ◌⊎◌, List, [], ◌∷◌, ◌++◌, length, is_some, Some, None, Decides, Option, sym, refl, ap, ◌∙◌, subst, inl, inr, arith}
+use Rattle.std.proofs.Common.{◌≡◌, ℕ, min, Bool, true, false, cond, ◌&&◌, eqb, leb, List, [], ◌∷◌, ◌++◌, length, Some, None, Decides, Option, refl, inl, inr, arith}
 use Rattle.std.specs.Str.{bytes_eq}
-use Rattle.std.proofs.lemmas.Bool.{eqb-true, eqb-false, leb-true, leb-false, cases_Bool}
+use Rattle.std.proofs.lemmas.Bool.{eqb-true, eqb-false, leb-true, leb-false}
 use Rattle.std.proofs.lemmas.Slice.Eq.{bytes_eq-Decides}
 use Rattle.std.proofs.lemmas.Bool.Decides.{Decides-and}
 use Rattle.message.specs.Instructions.{RightsText}
@@ -19,7 +19,7 @@ use Rattle.book.specs.declared.faults.BookFault.{BookFault}
 use Rattle.book.specs.declared.faults.BookFault.TheVariants.{Event, Content, Vote, Sum}
 use Rattle.book.specs.Questions.{Question, ask, Outcome}
 use Rattle.meeting.specs.Notices.{Notice}
-use Rattle.meeting.specs.Messages.{Purpose, purpose_of, form_with, form, InForm, StatusInForm, votes_question, sums_question, about_message, votes_fault, form_fault, instruction_fault, same_process, status_fault, message_fault}
+use Rattle.meeting.specs.Messages.{Purpose, purpose_of, form_with, form, InForm, votes_question, sums_question, about_message, votes_fault, form_fault, instruction_fault, same_process, status_fault, message_fault}
 use Rattle.meeting.specs.Messages.Purpose.{lodges, cancels}
 use Rattle.meeting.specs.Kept.{Kept}
 

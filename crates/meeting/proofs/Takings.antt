@@ -1,11 +1,11 @@
 -- The ways out of taking a message.
-use Rattle.std.proofs.Common.{◌≡◌, ℕ, List, [], ◌∷◌, ◌++◌, Some, None, Ok, Err, Option, Result, sym, refl, ap, ◌∙◌, subst}
+use Rattle.std.proofs.Common.{◌≡◌, ℕ, Some, None, Ok, Err, Option, sym, ap, ◌∙◌, subst}
 use Rattle.message.specs.Said.{Said}
 use Rattle.tally.specs.Scale.{Scale}
 use Rattle.book.specs.declared.faults.BookFault.{BookFault}
 use Rattle.book.specs.Book.{Situation, found}
 use Rattle.book.specs.Orders.{Ordered}
-use Rattle.book.specs.Questions.{Outcome, questions, refusal}
+use Rattle.book.specs.Questions.{Outcome, questions}
 use Rattle.book.specs.Verdicts.{verdict, shared_in}
 use Rattle.book.specs.Storage.{Acted}
 use Rattle.book.specs.Deeds.{Deed, deed_of}

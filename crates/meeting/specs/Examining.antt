@@ -1,5 +1,5 @@
 -- What the values of an examined instruction mean. Assumes nothing.
-use Rattle.std.specs.Prelude.{◌≡◌, Some, None, Option, Result, MatchResult}
+use Rattle.std.specs.Prelude.{◌≡◌, Some, None, Result, MatchResult}
 use Rattle.message.specs.Said.{Said}
 use Rattle.book.specs.declared.faults.BookFault.{BookFault}
 use Rattle.book.specs.declared.order.Order.{Order}

@@ -1,5 +1,5 @@
 -- Taking a message: all questions that are put to it, and what it leaves. Assumes nothing.
-use Rattle.std.specs.Prelude.{◌≡◌, ℕ, List, [], ◌∷◌, ◌++◌, Some, None, Ok, Err, Option, Result}
+use Rattle.std.specs.Prelude.{◌≡◌, ℕ, List, [], ◌++◌, Some, None, Ok, Err, Option, Result}
 use Rattle.reader.specs.declared.faults.ReadingFault.{ReadingFault}
 use Rattle.message.specs.Said.{Said}
 use Rattle.meeting.specs.Hearing.{Heard}

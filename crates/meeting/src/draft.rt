@@ -1,7 +1,7 @@
 // The draft of a meeting: its name, and its agenda as it grows.
 ghost use Rattle.std.specs.Prelude.{◌≡◌, ℕ, true, false, List, Some, None, Option as Maybe, MatchResult};
 ghost use Rattle.std.specs.List.{slice_get};
-ghost use Rattle.agenda.specs.Agendas.{blank, verdict as fillVerdict, filled as fillLeaves};
+ghost use Rattle.agenda.specs.Agendas.{blank, verdict as fill_verdict, filled as fill_leaves};
 ghost use Rattle.agenda.specs.declared.faults.AgendaFault.TheVariants.{Name};
 ghost use Rattle.book.specs.Book.{Instruction, meanings};
 ghost use Rattle.book.specs.Desk.{Led, situation, told};
@@ -77,8 +77,8 @@ impl Draft {
 
     // Fills in a question: one that an agenda can have, and whose number is new. Refused, it leaves the draft as found.
     pub fn add(&mut self, question: Question) -> Result<(), AgendaFault>
-        ensures answer { result ≡ fillVerdict self.old.agenda.questions question }
-        ensures after { drafted self.new ≡ noticed (drafted self.old).event (drafted self.old).isin (fillLeaves self.old.agenda.questions question result) }
+        ensures answer { result ≡ fill_verdict self.old.agenda.questions question }
+        ensures after { drafted self.new ≡ noticed (drafted self.old).event (drafted self.old).isin (fill_leaves self.old.agenda.questions question result) }
     {
         self.agenda.fill(question)
     }

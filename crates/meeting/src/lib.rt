@@ -1,3 +1,5 @@
+#![tactic(auto)]
+
 pub mod draft;
 mod examining;
 pub mod meeting;

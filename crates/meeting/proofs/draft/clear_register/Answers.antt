@@ -1,5 +1,5 @@
 -- Cleared, the register has no pair.
-use Rattle.std.proofs.Common.{◌≡◌, List, length, ap}
+use Rattle.std.proofs.Common.{List, length, ap}
 use Rattle.register.specs.Pairs.{Pair, look}
 use Rattle.register.specs.declared.call.Call.TheVariants.{Clear}
 use Rattle.register.specs.declared.call.Answer.TheVariants.{Cleared}
