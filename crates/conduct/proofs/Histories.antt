@@ -1,6 +1,6 @@
 -- A reference's standing as one more message is taken.
 use Rattle.std.proofs.Common.{◌≡◌, ℕ, ◌⊎◌, List, [], ◌∷◌, ◌++◌, Option, ap, ◌∙◌, subst, inl, inr, append_assoc, arith}
-use Rattle.std.specs.List.{AllByRecursion as All}
+use Rattle.std.specs.List.{AllByRecursion}
 use Rattle.std.proofs.ByRecursion.{All-push}
 use Rattle.book.specs.Book.{Terms}
 use Rattle.book.specs.Orders.{Ordered}
@@ -22,11 +22,11 @@ split {X} (y ∷ ys) s (z ∷ zs) x m e =
     let g : z ≡ y = cc in
     elim (split ys s zs x m f) [ inl p ↦ inl p | inr p ↦ inr (p.0, p.1, ap (λ (w : X). w ∷ zs) g ∙ ap (λ (w : List X). y ∷ w) p.2) ]
 
-all_last : {X : Type 0} (P : X → Type 0) (xs : List X) (x : X) → All P (xs ++ x ∷ []) → P x
+all_last : {X : Type 0} (P : X → Type 0) (xs : List X) (x : X) → AllByRecursion P (xs ++ x ∷ []) → P x
 all_last P [] x a = a.0
 all_last P (y ∷ ys) x a = all_last P ys x a.1
 
-all_front : {X : Type 0} (P : X → Type 0) (xs : List X) (x : X) → All P (xs ++ x ∷ []) → All P xs
+all_front : {X : Type 0} (P : X → Type 0) (xs : List X) (x : X) → AllByRecursion P (xs ++ x ∷ []) → AllByRecursion P xs
 all_front P [] x a = tt
 all_front P (y ∷ ys) x a = (a.0, all_front P ys x a.1)
 
@@ -51,6 +51,6 @@ module _ (h : List Ordered) (o : Ordered) (q : List ℕ) (t : Terms) where
       elim (split s.before s.since h (lodge t s.replaced) o s.order) [
         | inl e ↦ inl (s.replaced, e, s.lodged)
         | inr p ↦
-            let a : All (λ w. Ends w q → ⊥) (p.0 ++ o ∷ []) = subst (All (λ w. Ends w q → ⊥)) p.1 s.unended in
+            let a : AllByRecursion (λ w. Ends w q → ⊥) (p.0 ++ o ∷ []) = subst (AllByRecursion (λ w. Ends w q → ⊥)) p.1 s.unended in
             inr (record { before = s.before; since = p.0; replaced = s.replaced; order = p.2; lodged = s.lodged; unended = all_front _ p.0 o a }, all_last _ p.0 o a)
       ]

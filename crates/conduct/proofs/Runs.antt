@@ -1,5 +1,5 @@
 -- A run, one call longer.
-use Rattle.std.proofs.Common.{◌≡◌, ℕ, zero, suc, ◌+◌, ◌<◌, ◌≤◌, Bool, true, false, cond, leb, ◌⊎◌, List, [], ◌∷◌, ◌++◌, length, take, set, Some, None, Ok, Err, Option, Result, sym, refl, ap, ◌∙◌, subst, inl, inr, append_assoc, append-nil, add-one, arith}
+use Rattle.std.proofs.Common.{◌≡◌, ℕ, zero, suc, ◌+◌, ◌<◌, ◌≤◌, cond, leb, List, [], ◌∷◌, ◌++◌, length, take, set, Some, None, Ok, Err, Option, Result, sym, refl, ap, ◌∙◌, subst, inl, inr, append_assoc, append-nil, add-one, arith}
 use lib.Seq.{take-set-le}
 use Rattle.std.specs.List.{slice_get}
 use Rattle.std.specs.Option.{option_to_list}
@@ -7,24 +7,21 @@ use Rattle.std.proofs.lemmas.Bool.{cases_eq, cond-true, cond-false, le-leb, lt-l
 use Rattle.format.specs.Texts.{and_then}
 use Rattle.reader.specs.declared.faults.ReadingFault.{ReadingFault}
 use Rattle.message.specs.Said.{Said}
-use Rattle.message.specs.Messages.{said}
 use Rattle.meeting.specs.Hearing.{Heard}
 use Rattle.book.specs.declared.acting.Taken.{Taken as Done}
 use Rattle.book.specs.declared.faults.BookFault.{BookFault}
 use Rattle.book.specs.Book.{Situation, found}
 use Rattle.book.specs.Orders.{Ordered}
-use Rattle.book.specs.Questions.{Question, Outcome, questions}
-use Rattle.book.specs.Storage.{Filed, Acted}
+use Rattle.book.specs.Questions.{Question, Outcome}
+use Rattle.book.specs.Storage.{Filed}
 use Rattle.book.proofs.Places.{nth_set_here, nth_set_apart}
-use Rattle.meeting.specs.Notices.{Notice}
 use Rattle.meeting.specs.Messages.{about_message, order_of}
-use Rattle.meeting.specs.Taking.{about_order, all_questions, done, Leaves, TakesMessage, TakesHeard, Taking}
+use Rattle.meeting.specs.Taking.{about_order, done, Leaves, TakesHeard, Taking}
 use Rattle.meeting.specs.Opening.{Opened}
 use Rattle.meeting.proofs.Heard.{heard_said}
 use Rattle.conduct.specs.declared.call.Call.{Call}
 use Rattle.conduct.specs.declared.call.Call.TheVariants.{Take, Ask, Close}
 use Rattle.conduct.specs.declared.call.Answer.{Answer}
-use Rattle.conduct.specs.declared.call.Answer.TheVariants.{Taken, Refused, Told, Closed}
 use Rattle.conduct.specs.Laws.{Sound}
 use Rattle.conduct.specs.Run.{Meter, Terms, Called, Conducted, take_answer, order_in, is_taken, taken_by, taken}
 use Rattle.conduct.proofs.Counts.{sound_opened}

@@ -1,6 +1,6 @@
 -- What taken messages do to a reference, and when it stands after some of them. Assumes nothing.
-use Rattle.std.specs.Prelude.{◌≡◌, ℕ, ◌⊎◌, List, [], ◌∷◌, ◌++◌, Some, Option}
-use Rattle.std.specs.List.{AllByRecursion as All}
+use Rattle.std.specs.Prelude.{◌≡◌, ℕ, ◌⊎◌, List, ◌∷◌, ◌++◌, Some, Option}
+use Rattle.std.specs.List.{AllByRecursion}
 use Rattle.book.specs.declared.status.StatusEvent.TheVariants.{Cancellation, Rejection}
 use Rattle.book.specs.States.{event_of}
 use Rattle.book.specs.Book.{Terms}
@@ -36,4 +36,4 @@ pub record Standing (taken : List Ordered) (q : List ℕ) (t : Terms) : Type 0 w
   pub replaced : Option (List ℕ)
   pub order : taken ≡ before ++ lodge t replaced ∷ since
   pub lodged : t.reference ≡ q
-  pub unended : All (λ o. Ends o q → ⊥) since
+  pub unended : AllByRecursion (λ o. Ends o q → ⊥) since

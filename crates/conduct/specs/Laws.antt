@@ -1,5 +1,5 @@
 -- What holds of every situation that a meeting comes to, whatever was given to it. Assumes nothing.
-use Rattle.std.specs.Prelude.{◌≡◌, ℕ, List, [], ◌∷◌, Some, None, Option}
+use Rattle.std.specs.Prelude.{◌≡◌, ℕ, List, Some, Option}
 use Rattle.std.specs.List.{slice_get}
 use Rattle.tally.specs.Scale.{Scale, joined}
 use Rattle.book.specs.Book.{Terms, Instruction, Situation, found, ballots}

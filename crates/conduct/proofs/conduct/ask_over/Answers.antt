@@ -1,10 +1,9 @@
 -- A question that is not put to the register leaves it alone.
-use Rattle.std.proofs.Common.{◌≡◌, sym, refl, ap, ◌∙◌, subst}
+use Rattle.std.proofs.Common.{sym, refl, ap, ◌∙◌, subst}
 use Rattle.book.specs.Desk.{situation}
 use Rattle.book.proofs.Leading.{led_here}
 use Rattle.meeting.specs.Notices.{concluded}
 use Rattle.conduct.specs.declared.call.Question.{Question}
-use Rattle.conduct.specs.declared.call.Reply.{Reply}
 use Rattle.conduct.specs.declared.call.Reply.TheVariants.{Figure, Total, Standing, Asked}
 use Rattle.conduct.specs.Run.{Replied}
 use Rattle.conduct.specs.Conducting.{meter}
@@ -20,4 +19,4 @@ pub returns-in-Standing : goal.returns-in-Standing
 returns-in-Standing g c = record { led = led_here g.R.Register c.args.register.now; asks = λ o f. (o, refl, subst (λ (q : Question). Replied (meter g.R.Register g.T.Tally c.args.tally.now) (concluded c.args.meeting.now) (situation g.R.Register g.T.Tally c.args.register.now c.args.tally.now c.args.records.now) q (Standing c.standing.result)) (sym c.in-Standing.is) (ap Standing (c.standing.ensures ∙ sym f.paired.many))) }
 
 pub returns-in-Asked : goal.returns-in-Asked
-returns-in-Asked g c = record { led = led_here g.R.Register c.args.register.now; asks = λ o f. (o, refl, subst (λ (q : Question). Replied (meter g.R.Register g.T.Tally c.args.tally.now) (concluded c.args.meeting.now) (situation g.R.Register g.T.Tally c.args.register.now c.args.tally.now c.args.records.now) q (Asked c.asked-at.result)) (sym c.in-Asked.is) (c.asked-at.result, refl)) }
+returns-in-Asked g c = record { led = led_here g.R.Register c.args.register.now; asks = λ o f. (o, refl, subst (λ (q : Question). Replied (meter g.R.Register g.T.Tally c.args.tally.now) (concluded c.args.meeting.now) (situation g.R.Register g.T.Tally c.args.register.now c.args.tally.now c.args.records.now) q (Asked c.asked_at.result)) (sym c.in-Asked.is) (c.asked_at.result, refl)) }

@@ -1,10 +1,10 @@
 -- The run grows by one call at a time.
-use Rattle.std.proofs.Common.{◌≡◌, ℕ, ◌<◌, min, List, [], length, get_or, Some, None, Option, sym, refl, ap, ◌∙◌, subst, subst₂, arith}
+use Rattle.std.proofs.Common.{◌≡◌, ℕ, ◌<◌, min, [], length, get_or, Some, Option, sym, refl, ap, ◌∙◌, subst, subst₂, arith}
 use Rattle.std.proofs.lemmas.Option.{slice_get-get_or}
 use Rattle.tally.specs.Scale.{Scale}
 use Rattle.book.specs.Book.{Situation}
 use Rattle.book.specs.Storage.{Filed}
-use Rattle.book.specs.Desk.{situation, room_for}
+use Rattle.book.specs.Desk.{situation}
 use Rattle.book.proofs.Leading.{led_here, led_on}
 use Rattle.book.proofs.Places.{nth_set_apart}
 use Rattle.meeting.specs.Notices.{Notice, drafted}

@@ -1,15 +1,12 @@
 -- Each way through a call, by the phase of the meeting and the kind of the call.
-use Rattle.std.proofs.Common.{◌≡◌, ℕ, true, false, length, Some, None, Ok, Err, Option, sym, refl, ap, ◌∙◌, subst, subst₂, inl, inr}
+use Rattle.std.proofs.Common.{true, false, length, Some, None, sym, refl, ap, ◌∙◌, subst₂, inl, inr}
 use Rattle.register.specs.Runs.{View}
-use Rattle.book.specs.Book.{Situation, at, meanings}
+use Rattle.book.specs.Book.{at, meanings}
 use Rattle.book.specs.Desk.{situation}
 use Rattle.book.proofs.Leading.{led_here}
-use Rattle.meeting.specs.Notices.{Notice, convened, concluded}
 use Rattle.conduct.specs.declared.call.Call.{Call}
-use Rattle.conduct.specs.declared.call.Answer.{Answer}
-use Rattle.conduct.specs.declared.call.Answer.TheVariants.{Taken, Refused, Told, Closed}
+use Rattle.conduct.specs.declared.call.Answer.TheVariants.{Told, Closed}
 use Rattle.conduct.specs.declared.conduct.Phase.{Phase}
-use Rattle.conduct.specs.Run.{Called}
 use Rattle.conduct.specs.Conducting.{over, notice_of, Goes, Given, meter, terms}
 use Rattle.conduct.proofs.conduct.put.Goals as goal
 
@@ -18,17 +15,17 @@ returns-in-Take g c = record {
   led = c.take-taken.ensures.led;
   scale = c.take-taken.ensures.scale;
   notice = ap notice_of (sym c.in-Sitting.is);
-  goes = subst₂ (λ (p : Phase) (q : Call). Goes (over p) q (Some c.answer-to-answer.result) false) (sym c.in-Sitting.is) (sym c.in-Take.is) (refl, refl);
-  puts = λ o f. let k = c.take-taken.ensures.taking o f in (k.0, subst₂ (λ (p : Phase) (q : Call). Given (meter g.R.Register g.T.Tally c.args.tally.now) (terms g.R.Register g.T.Tally (notice_of p) c.args.register.now c.args.records.now (length c.args.table.now)) (situation g.R.Register g.T.Tally c.args.register.now c.args.tally.now c.args.records.now) q (Some c.answer-to-answer.result) (situation g.R.Register g.T.Tally c.take-taken.new.register c.take-taken.new.tally c.take-taken.new.records)) (sym c.in-Sitting.is) (sym c.in-Take.is) (c.take-taken.result, c.answer-to-answer.ensures, k.1));
+  goes = subst₂ (λ (p : Phase) (q : Call). Goes (over p) q (Some c.answer_to-answer.result) false) (sym c.in-Sitting.is) (sym c.in-Take.is) (refl, refl);
+  puts = λ o f. let k = c.take-taken.ensures.taking o f in (k.0, subst₂ (λ (p : Phase) (q : Call). Given (meter g.R.Register g.T.Tally c.args.tally.now) (terms g.R.Register g.T.Tally (notice_of p) c.args.register.now c.args.records.now (length c.args.table.now)) (situation g.R.Register g.T.Tally c.args.register.now c.args.tally.now c.args.records.now) q (Some c.answer_to-answer.result) (situation g.R.Register g.T.Tally c.take-taken.new.register c.take-taken.new.tally c.take-taken.new.records)) (sym c.in-Sitting.is) (sym c.in-Take.is) (c.take-taken.result, c.answer_to-answer.ensures, k.1));
 }
 
 pub returns-in-Ask : goal.returns-in-Ask
 returns-in-Ask g c = record {
-  led = c.ask-sitting-reply.ensures.led;
+  led = c.ask_sitting-reply.ensures.led;
   scale = refl;
   notice = ap notice_of (sym c.in-Sitting.is);
-  goes = subst₂ (λ (p : Phase) (q : Call). Goes (over p) q (Some (Told c.ask-sitting-reply.result)) false) (sym c.in-Sitting.is) (sym c.in-Ask.is) (refl, refl);
-  puts = λ o f. let k = c.ask-sitting-reply.ensures.asks o f in (k.0, subst₂ (λ (p : Phase) (q : Call). Given (meter g.R.Register g.T.Tally c.args.tally.now) (terms g.R.Register g.T.Tally (notice_of p) c.args.register.now c.args.records.now (length c.args.table.now)) (situation g.R.Register g.T.Tally c.args.register.now c.args.tally.now c.args.records.now) q (Some (Told c.ask-sitting-reply.result)) (situation g.R.Register g.T.Tally c.ask-sitting-reply.new.register c.args.tally.now c.args.records.now)) (sym c.in-Sitting.is) (sym c.in-Ask.is) (c.ask-sitting-reply.result, refl, k.2, ap (λ (w : View). at w (g.T.Tally.value c.args.tally.now) (meanings c.args.records.now)) k.1));
+  goes = subst₂ (λ (p : Phase) (q : Call). Goes (over p) q (Some (Told c.ask_sitting-reply.result)) false) (sym c.in-Sitting.is) (sym c.in-Ask.is) (refl, refl);
+  puts = λ o f. let k = c.ask_sitting-reply.ensures.asks o f in (k.0, subst₂ (λ (p : Phase) (q : Call). Given (meter g.R.Register g.T.Tally c.args.tally.now) (terms g.R.Register g.T.Tally (notice_of p) c.args.register.now c.args.records.now (length c.args.table.now)) (situation g.R.Register g.T.Tally c.args.register.now c.args.tally.now c.args.records.now) q (Some (Told c.ask_sitting-reply.result)) (situation g.R.Register g.T.Tally c.ask_sitting-reply.new.register c.args.tally.now c.args.records.now)) (sym c.in-Sitting.is) (sym c.in-Ask.is) (c.ask_sitting-reply.result, refl, k.2, ap (λ (w : View). at w (g.T.Tally.value c.args.tally.now) (meanings c.args.records.now)) k.1));
 }
 
 pub returns-in-Close : goal.returns-in-Close
@@ -42,11 +39,11 @@ returns-in-Close g c = record {
 
 pub returns-in-Ask-call : goal.returns-in-Ask-call
 returns-in-Ask-call g c = record {
-  led = c.ask-over-reply.ensures.led;
+  led = c.ask_over-reply.ensures.led;
   scale = refl;
   notice = ap notice_of (sym c.in-Over.is);
-  goes = subst₂ (λ (p : Phase) (q : Call). Goes (over p) q (Some (Told c.ask-over-reply.result)) true) (sym c.in-Over.is) (sym c.in-Ask-call.is) (refl, refl);
-  puts = λ o f. let k = c.ask-over-reply.ensures.asks o f in (k.0, subst₂ (λ (p : Phase) (q : Call). Given (meter g.R.Register g.T.Tally c.args.tally.now) (terms g.R.Register g.T.Tally (notice_of p) c.args.register.now c.args.records.now (length c.args.table.now)) (situation g.R.Register g.T.Tally c.args.register.now c.args.tally.now c.args.records.now) q (Some (Told c.ask-over-reply.result)) (situation g.R.Register g.T.Tally c.ask-over-reply.new.register c.args.tally.now c.args.records.now)) (sym c.in-Over.is) (sym c.in-Ask-call.is) (c.ask-over-reply.result, refl, k.2, ap (λ (w : View). at w (g.T.Tally.value c.args.tally.now) (meanings c.args.records.now)) k.1));
+  goes = subst₂ (λ (p : Phase) (q : Call). Goes (over p) q (Some (Told c.ask_over-reply.result)) true) (sym c.in-Over.is) (sym c.in-Ask-call.is) (refl, refl);
+  puts = λ o f. let k = c.ask_over-reply.ensures.asks o f in (k.0, subst₂ (λ (p : Phase) (q : Call). Given (meter g.R.Register g.T.Tally c.args.tally.now) (terms g.R.Register g.T.Tally (notice_of p) c.args.register.now c.args.records.now (length c.args.table.now)) (situation g.R.Register g.T.Tally c.args.register.now c.args.tally.now c.args.records.now) q (Some (Told c.ask_over-reply.result)) (situation g.R.Register g.T.Tally c.ask_over-reply.new.register c.args.tally.now c.args.records.now)) (sym c.in-Over.is) (sym c.in-Ask-call.is) (c.ask_over-reply.result, refl, k.2, ap (λ (w : View). at w (g.T.Tally.value c.args.tally.now) (meanings c.args.records.now)) k.1));
 }
 
 pub returns-in-Take-call : goal.returns-in-Take-call
