@@ -10,6 +10,7 @@ use agenda::faults::AgendaFault;
 use agenda::question::Question;
 use meeting::draft::Draft;
 use std::io;
+use std::rt::Files;
 
 // The name and the questions of a meeting.
 #[derive(Clone, Copy)]
@@ -71,7 +72,11 @@ impl<'a> Drafting<'a> {
     }
 
     // Carries out a line. If it is the opening, that is left to do.
-    fn carry_out(&mut self, rt: &HostRuntime, line: &'a str) -> Result<Option<Setup>, Mistake<'a>> {
+    fn carry_out(
+        &mut self,
+        rt: &(impl Files + Print + AllocGlobal),
+        line: &'a str,
+    ) -> Result<Option<Setup>, Mistake<'a>> {
         match parse(line)? {
             Command::Show(view, file) => {
                 let text = load(rt, file)?;
@@ -92,7 +97,7 @@ impl<'a> Drafting<'a> {
     // Carries out the lines up to the first opening, if there is one.
     pub fn prepare(
         &mut self,
-        rt: &HostRuntime,
+        rt: &(impl Files + Print + AllocGlobal),
         lines: &'a [Line<'a>],
     ) -> Result<Option<Opening<'a>>, Stop<'a>> {
         for (i, line) in lines.iter().enumerate() {
@@ -111,7 +116,7 @@ impl<'a> Drafting<'a> {
 
 // Prints the line and its answer.
 fn tell(
-    rt: &HostRuntime,
+    rt: &impl Print,
     line: &str,
     done: &str,
     verdict: Result<(), AgendaFault>,

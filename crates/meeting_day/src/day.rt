@@ -4,6 +4,7 @@ use crate::line::{Line, lines_of};
 use crate::mistake::{Mistake, Stop};
 use crate::sitting::meet;
 use std::io;
+use std::rt::Files;
 
 // The program ended before the day did; what stopped it is printed already.
 #[derive(Drop)]
@@ -16,7 +17,7 @@ impl From<io::Error> for Stopped {
 }
 
 // Carries out every line, up to the first in error.
-pub fn carry_out(rt: &HostRuntime, day: &str) -> Result<(), Stopped> {
+pub fn carry_out(rt: &(impl Files + Print + AllocGlobal), day: &str) -> Result<(), Stopped> {
     match lines_of(rt.alloc(), day) {
         Ok(lines) => match carry_out_lines(rt, &lines) {
             Ok(()) => Ok(()),
@@ -26,12 +27,15 @@ pub fn carry_out(rt: &HostRuntime, day: &str) -> Result<(), Stopped> {
     }
 }
 
-fn report(rt: &HostRuntime, stop: Stop<'_>) -> Result<(), Stopped> {
+fn report(rt: &impl Print, stop: Stop<'_>) -> Result<(), Stopped> {
     println!(rt; "{stop}")?;
     Err(Stopped)
 }
 
-fn carry_out_lines<'a>(rt: &HostRuntime, lines: &'a [Line<'a>]) -> Result<(), Stop<'a>> {
+fn carry_out_lines<'a>(
+    rt: &(impl Files + Print + AllocGlobal),
+    lines: &'a [Line<'a>],
+) -> Result<(), Stop<'a>> {
     let mut drafting = Drafting::new();
     let Some(opening) = drafting.prepare(rt, lines)? else {
         return Ok(());

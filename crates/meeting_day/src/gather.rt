@@ -6,6 +6,7 @@ use crate::parse::parse;
 use crate::view::load;
 use conduct::call::Question as Inquiry;
 use std::fmt;
+use std::rt::Files;
 
 // A line, and what it asks for.
 #[derive(Drop)]
@@ -51,7 +52,7 @@ pub struct Gathering<'a> {
 
 impl<'a> Gathering<'a> {
     // Gathers the lines behind an opening.
-    pub fn of(rt: &HostRuntime, lines: &'a [Line<'a>]) -> Gathering<'a> {
+    pub fn of(rt: &(impl Files + AllocGlobal), lines: &'a [Line<'a>]) -> Gathering<'a> {
         let mut gathering = Gathering {
             steps: Vec::new(rt.alloc()),
             phase: Phase::Open,
@@ -66,7 +67,7 @@ impl<'a> Gathering<'a> {
         gathering
     }
 
-    fn add(&mut self, rt: &HostRuntime, line: Line<'a>) -> Result<(), Mistake<'a>> {
+    fn add(&mut self, rt: &(impl Files + AllocGlobal), line: Line<'a>) -> Result<(), Mistake<'a>> {
         let task = task_of(rt, line.text, self.phase)?;
         if let Task::Close = task {
             self.phase = Phase::Closed;
@@ -76,7 +77,11 @@ impl<'a> Gathering<'a> {
     }
 }
 
-fn task_of<'a>(rt: &HostRuntime, line: &'a str, phase: Phase) -> Result<Task<'a>, Mistake<'a>> {
+fn task_of<'a>(
+    rt: &(impl Files + AllocGlobal),
+    line: &'a str,
+    phase: Phase,
+) -> Result<Task<'a>, Mistake<'a>> {
     match parse(line)? {
         Command::Show(view, file) => Ok(Task::Show(view, load(rt, file)?)),
         Command::Prepare(_) => Err(Mistake::AlreadyOpen),
@@ -85,7 +90,7 @@ fn task_of<'a>(rt: &HostRuntime, line: &'a str, phase: Phase) -> Result<Task<'a>
 }
 
 fn proceed<'a>(
-    rt: &HostRuntime,
+    rt: &(impl Files + AllocGlobal),
     proceeding: Proceeding<'a>,
     phase: Phase,
 ) -> Result<Task<'a>, Mistake<'a>> {

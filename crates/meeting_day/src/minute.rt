@@ -34,7 +34,7 @@ fn ask_question(calls: &mut Vec<Call<'_>>, question: Question) -> Result<(), All
     Ok(())
 }
 
-fn print_question(rt: &HostRuntime, question: Question, answers: &mut Answers) -> io::Result<()> {
+fn print_question(rt: &impl Print, question: Question, answers: &mut Answers) -> io::Result<()> {
     let number = question.number;
     match question.kind {
         VoteKind::Ordinary => {
@@ -51,7 +51,7 @@ fn print_question(rt: &HostRuntime, question: Question, answers: &mut Answers) -
     }
 }
 
-fn print_candidates(rt: &HostRuntime, candidates: u8, answers: &mut Answers) -> io::Result<()> {
+fn print_candidates(rt: &impl Print, candidates: u8, answers: &mut Answers) -> io::Result<()> {
     for candidate in 1..=candidates {
         let votes = answers.next();
         let end = if candidate < candidates { "," } else { "\n" };
@@ -69,7 +69,7 @@ fn ask_questions(calls: &mut Vec<Call<'_>>, agenda: &Agenda) -> Result<(), Alloc
     Ok(())
 }
 
-fn print_questions(rt: &HostRuntime, agenda: &Agenda, answers: &mut Answers) -> io::Result<()> {
+fn print_questions(rt: &impl Print, agenda: &Agenda, answers: &mut Answers) -> io::Result<()> {
     for number in 1..=MOST_QUESTIONS as u8 {
         if let Some(question) = agenda.question(number) {
             print_question(rt, question, answers)?;
@@ -78,7 +78,7 @@ fn print_questions(rt: &HostRuntime, agenda: &Agenda, answers: &mut Answers) -> 
     Ok(())
 }
 
-fn print_sums(rt: &HostRuntime, fronts: Fronts, answers: &mut Answers) -> io::Result<()> {
+fn print_sums(rt: &impl Print, fronts: Fronts, answers: &mut Answers) -> io::Result<()> {
     let total = answers.next();
     println!(rt; "  control total {total}")?;
     let standing = answers.next();
@@ -112,13 +112,13 @@ impl<'a> Minute<'a> {
     }
 
     // Prints what was answered.
-    pub fn print(&self, rt: &HostRuntime, phase: Phase, answers: &mut Answers) -> io::Result<()> {
+    pub fn print(&self, rt: &impl Print, phase: Phase, answers: &mut Answers) -> io::Result<()> {
         print_heading(rt, self.event, self.isin, phase)?;
         print_questions(rt, &self.agenda, answers)?;
         print_sums(rt, self.fronts, answers)
     }
 }
 
-fn print_heading(rt: &HostRuntime, event: &str, isin: &str, phase: Phase) -> io::Result<()> {
+fn print_heading(rt: &impl Print, event: &str, isin: &str, phase: Phase) -> io::Result<()> {
     println!(rt; "{event} {isin}, {phase}")
 }

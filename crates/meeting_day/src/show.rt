@@ -5,7 +5,7 @@ use reader::table::Entry;
 use std::{fmt, io};
 
 // What was written, beside the text.
-pub fn print_filed(rt: &HostRuntime, text: &[u8], out: &[u8], len: usize) -> io::Result<()> {
+pub fn print_filed(rt: &impl Print, text: &[u8], out: &[u8], len: usize) -> io::Result<()> {
     if part(out, 0, len) == text {
         println!(rt; "{len} bytes, the same")
     } else {
@@ -31,7 +31,7 @@ impl fmt::Display for Shown<'_> {
 }
 
 // The fields of a text: how many, and then each with its start, tag, qualifier and value.
-pub fn print_fields(rt: &HostRuntime, text: &[u8]) -> io::Result<()> {
+pub fn print_fields(rt: &impl Print, text: &[u8]) -> io::Result<()> {
     let count = field_count(text);
     println!(rt; "{count} fields")?;
     for field in Fields::of(text) {
@@ -40,7 +40,7 @@ pub fn print_fields(rt: &HostRuntime, text: &[u8]) -> io::Result<()> {
     Ok(())
 }
 
-fn print_field(rt: &HostRuntime, text: &[u8], field: Field) -> io::Result<()> {
+fn print_field(rt: &impl Print, text: &[u8], field: Field) -> io::Result<()> {
     let start = field.start;
     let letters = tag_letters(field.tag);
     let tag = Shown(&letters);
@@ -63,7 +63,7 @@ fn qualifier_letters(qualifier: Option<Qualifier>) -> [u8; 4] {
 }
 
 // The field table of a text: how many entries, and then each with its row, start, length and value.
-pub fn print_table(rt: &HostRuntime, text: &[u8], table: &[Entry], count: usize) -> io::Result<()> {
+pub fn print_table(rt: &impl Print, text: &[u8], table: &[Entry], count: usize) -> io::Result<()> {
     println!(rt; "{count} fields")?;
     for entry in table.iter().take(count) {
         print_entry(rt, text, *entry)?;
@@ -71,7 +71,7 @@ pub fn print_table(rt: &HostRuntime, text: &[u8], table: &[Entry], count: usize)
     Ok(())
 }
 
-fn print_entry(rt: &HostRuntime, text: &[u8], entry: Entry) -> io::Result<()> {
+fn print_entry(rt: &impl Print, text: &[u8], entry: Entry) -> io::Result<()> {
     let row = entry.row;
     let start = entry.start;
     let len = entry.len;

@@ -11,6 +11,7 @@ use conduct::call::Call;
 use meeting::draft::Draft;
 use std::alloc::{AllocError, Global};
 use std::io;
+use std::rt::Files;
 
 // The calls that the steps ask for.
 fn calls_of<'a>(
@@ -43,13 +44,13 @@ fn answers_to(
     Ok(Answers::new(answer_all(heap, draft, setup, &calls)?))
 }
 
-fn print_answer(rt: &HostRuntime, line: &str, answers: &mut Answers) -> io::Result<()> {
+fn print_answer(rt: &impl Print, line: &str, answers: &mut Answers) -> io::Result<()> {
     let answer = answers.next();
     println!(rt; "{line}: {answer}")
 }
 
 fn print_minute(
-    rt: &HostRuntime,
+    rt: &impl Print,
     line: &str,
     minute: &Minute<'_>,
     phase: Phase,
@@ -61,7 +62,7 @@ fn print_minute(
 
 // Prints a line and what came of it.
 fn print_step(
-    rt: &HostRuntime,
+    rt: &(impl Print + AllocGlobal),
     step: &Step<'_>,
     minute: &Minute<'_>,
     answers: &mut Answers,
@@ -77,7 +78,7 @@ fn print_step(
 
 // Carries out the opening of a meeting and all lines behind it.
 pub fn meet<'a>(
-    rt: &HostRuntime,
+    rt: &(impl Files + Print + AllocGlobal),
     draft: Draft,
     notice: Notice<'a>,
     opening: Opening<'a>,

@@ -8,11 +8,12 @@ use reader::faults::ReadingFault;
 use reader::reading::read;
 use reader::table::Entry;
 use std::alloc::{AllocError, Global};
+use std::rt::Files;
 use std::{fs, io};
 use writer::filing::{FilingFault, refile};
 
 // The bytes of a file.
-pub fn load<'a>(rt: &HostRuntime, file: &'a str) -> Result<Vec<u8>, Mistake<'a>> {
+pub fn load<'a>(rt: &(impl Files + AllocGlobal), file: &'a str) -> Result<Vec<u8>, Mistake<'a>> {
     match fs::read(rt, file) {
         Ok(bytes) => Ok(bytes),
         Err(_) => Err(Mistake::Unreadable(file)),
@@ -30,7 +31,12 @@ pub fn new_table(heap: Global, entries: usize) -> Result<Vec<Entry>, AllocError>
 }
 
 // Prints the line and what it shows of the text.
-pub fn show(rt: &HostRuntime, line: &str, view: View, text: &[u8]) -> Result<(), Mistake<'static>> {
+pub fn show(
+    rt: &(impl Print + AllocGlobal),
+    line: &str,
+    view: View,
+    text: &[u8],
+) -> Result<(), Mistake<'static>> {
     match view {
         View::Fields => {
             print!(rt; "{line}: ")?;
@@ -51,22 +57,28 @@ pub fn show(rt: &HostRuntime, line: &str, view: View, text: &[u8]) -> Result<(),
     Ok(())
 }
 
-fn show_fields(rt: &HostRuntime, text: &[u8]) -> io::Result<()> {
+fn show_fields(rt: &impl Print, text: &[u8]) -> io::Result<()> {
     match check_text(text) {
         Ok(()) => print_fields(rt, text),
-        Err(fault) => rt.println(Refusal::Reading(ReadingFault::from(fault))),
+        Err(fault) => {
+            let refusal = Refusal::Reading(ReadingFault::from(fault));
+            println!(rt; "{refusal}")
+        }
     }
 }
 
-fn show_table(rt: &HostRuntime, number: u16, text: &[u8], table: &mut [Entry]) -> io::Result<()> {
+fn show_table(rt: &impl Print, number: u16, text: &[u8], table: &mut [Entry]) -> io::Result<()> {
     match read(number, text, table) {
         Ok(count) => print_table(rt, text, table, count),
-        Err(fault) => rt.println(Refusal::Reading(fault)),
+        Err(fault) => {
+            let refusal = Refusal::Reading(fault);
+            println!(rt; "{refusal}")
+        }
     }
 }
 
 fn show_filing(
-    rt: &HostRuntime,
+    rt: &impl Print,
     number: u16,
     text: &[u8],
     table: &mut [Entry],
@@ -74,7 +86,13 @@ fn show_filing(
 ) -> io::Result<()> {
     match refile(number, text, table, out) {
         Ok(len) => print_filed(rt, text, out, len),
-        Err(FilingFault::Reading(fault)) => rt.println(Refusal::Reading(fault)),
-        Err(FilingFault::Writing(fault)) => rt.println(Refusal::Writing(fault)),
+        Err(FilingFault::Reading(fault)) => {
+            let refusal = Refusal::Reading(fault);
+            println!(rt; "{refusal}")
+        }
+        Err(FilingFault::Writing(fault)) => {
+            let refusal = Refusal::Writing(fault);
+            println!(rt; "{refusal}")
+        }
     }
 }
