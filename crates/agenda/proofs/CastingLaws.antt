@@ -70,13 +70,11 @@ module _ (table : Table) (votes : List VoteText) (count : ℕ) where
       (⊎_elim (λ lt. absurd (a.3 (b.4 a.0 lt))) (λ lt. absurd (b.3 (a.4 b.0 lt))))
       (cases_order a.0 b.0)
 
--- what is said of a message's votes, from what came of the n that are kept
-pub all_judged : (table : Table) (given : GivenVotes) (n : ℕ) (p q : Option ℕ) → length given.items ≡ 64 → n ≡ min given.count 64
-    → bad_from table [] (take n given.items) ≡ p → q ≡ too_many given.count p
+-- what is said of a message's votes, from what came of those that are kept
+pub all_judged : (table : Table) (given : GivenVotes) (p q : Option ℕ) → bad_from table [] (given_votes given) ≡ p → q ≡ too_many given.count p
     → (bad_vote table (given_votes given) given.count ≡ q) × VotesJudged table (given_votes given) given.count q × ((o : Option ℕ) → VotesJudged table (given_votes given) given.count o → o ≡ q)
-all_judged table given n p q long part e f =
+all_judged table given p q e f =
     let votes : List VoteText = given_votes given in
-    let many : length votes ≡ min given.count 64 = length-take (min given.count 64) given.items ∙ omega arith in
-    let is : bad_vote table votes given.count ≡ q = ap (λ m. too_many given.count (bad_from table [] (take m given.items))) (sym part) ∙ ap (too_many given.count) e ∙ sym f in
-    let judged : VotesJudged table votes given.count q = subst (VotesJudged table votes given.count) is (votes_judged table votes given.count many) in
+    let is : bad_vote table votes given.count ≡ q = ap (too_many given.count) e ∙ sym f in
+    let judged : VotesJudged table votes given.count q = subst (VotesJudged table votes given.count) is (votes_judged table votes given.count given.first) in
     (is, judged, λ o h. votes_only table votes given.count o q h judged)

@@ -1,5 +1,5 @@
-pub mod Tables
 pub mod CastingLaws
 pub mod CastingSteps
+pub mod Counting
 pub mod SumLaws
 pub mod SumSteps

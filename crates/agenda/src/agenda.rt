@@ -32,10 +32,8 @@ impl Agenda {
     pub fn has_cell(&self, question: u8, cell: u8) -> bool
         ensures { result ≡ has_cell self.now.questions question cell }
     {
-        match self.question(question) {
-            Some(question) => question.has_cell(cell),
-            None => false,
-        }
+        self.question(question)
+            .is_some_and(|question| question.has_cell(cell))
     }
 
     // Fills in a question: one that an agenda can have, and whose number is new. Refused, it leaves the agenda as found.
@@ -51,6 +49,14 @@ impl Agenda {
         }
         self.questions[usize::from(question.number) - 1] = Some(question);
         Ok(())
+    }
+}
+
+impl Default for Agenda {
+    ghost is_default = { λ a. a.questions ≡ blank };
+
+    fn default() -> Agenda {
+        Agenda::new()
     }
 }
 

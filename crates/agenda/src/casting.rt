@@ -1,9 +1,9 @@
 // The votes of a message: which are good, and in which cell each is cast.
-ghost use Rattle.std.specs.Prelude.{◌≡◌, ℕ, ◌≤◌, ◌&&◌, [], length, Some, None, Option as Maybe, MatchResult, ◌==◌};
+ghost use Rattle.std.specs.Prelude.{◌≡◌, ℕ, [], Some, None, Option as Maybe, MatchResult};
 ghost use Rattle.std.specs.Result.{result_err};
 ghost use Rattle.message.specs.Instructions.{given_votes};
 ghost use Rattle.agenda.specs.Votes.{votes_of};
-ghost use Rattle.agenda.specs.Casting.{VotesJudged, bad_from, bad_vote, candidate_cell, answer_cell, cast_in, cast_one, cast_vote, cast_votes, fits, same_kind, suits, too_many};
+ghost use Rattle.agenda.specs.Casting.{VotesJudged, bad_from, bad_vote, answer_cell, cast_in, cast_one, cast_vote, cast_votes, fits, suits, too_many};
 
 use crate::agenda::Agenda;
 use crate::question::Question;
@@ -12,55 +12,53 @@ use format::votes::{VoteAnswer, VoteKind, VoteText};
 use message::instruction::{GivenVotes, MOST_VOTES};
 use tally::vote::Vote;
 
+// For a place that holds no vote yet: what it says is of no account.
+const NO_VOTE: Vote = Vote {
+    question: 0,
+    cell: 0,
+    quantity: 0,
+};
+
 // What the votes of a message cast; or the place of the first vote that is not good, counted from 1. A vote is good where its question is on
 // the agenda with its kind, it suits that question, its cell is in no vote before it, and it is among the first 64.
+// Stays a bare place in the error: it is shown as it is, and a type of its own would only be taken off again.
 pub fn cast(agenda: &Agenda, given: &GivenVotes) -> Result<Votes, usize>
     ensures value { MatchResult result (λ v. (bad_vote agenda.now.questions (given_votes given.now) given.now.count ≡ None) × (votes_of v ≡ cast_votes (given_votes given.now))) (λ place. bad_vote agenda.now.questions (given_votes given.now) given.now.count ≡ Some place) }
     ensures judged { VotesJudged agenda.now.questions (given_votes given.now) given.now.count (result_err result) }
     ensures only { (p : Maybe ℕ) → VotesJudged agenda.now.questions (given_votes given.now) given.now.count p → p ≡ result_err result }
 {
-    let kept = &given.items[0..given.count.min(MOST_VOTES)];
-    let votes = cast_kept(agenda, kept)?;
-    match first_unkept(given.count) {
-        Some(place) => Err(place),
-        None => Ok(votes),
-    }
+    let votes = cast_kept(agenda, given)?;
+    all_kept(given.count)?;
+    Ok(votes)
 }
 
-// The place of the first vote of a message that is not kept, if there is one.
-fn first_unkept(count: usize) -> Option<usize>
-    ensures { result ≡ too_many count None }
+// Is each of so many votes kept? Else this is the place of the first that is not.
+fn all_kept(count: usize) -> Result<(), usize>
+    ensures { result_err result ≡ too_many count None }
 {
     if count > MOST_VOTES {
-        Some(MOST_VOTES + 1)
+        Err(MOST_VOTES + 1)
     } else {
-        None
+        Ok(())
     }
 }
 
-// What these votes cast, one after the other; or the place of the first that is not good.
-fn cast_kept(agenda: &Agenda, texts: &[VoteText]) -> Result<Votes, usize>
-    requires { length texts.now ≤ 64 }
-    ensures { MatchResult result (λ v. (bad_from agenda.now.questions [] texts.now ≡ None) × (votes_of v ≡ cast_votes texts.now)) (λ place. bad_from agenda.now.questions [] texts.now ≡ Some place) }
+// What the votes that are kept cast, one after the other; or the place of the first that is not good.
+fn cast_kept(agenda: &Agenda, given: &GivenVotes) -> Result<Votes, usize>
+    ensures { MatchResult result (λ v. (bad_from agenda.now.questions [] (given_votes given.now) ≡ None) × (votes_of v ≡ cast_votes (given_votes given.now))) (λ place. bad_from agenda.now.questions [] (given_votes given.now) ≡ Some place) }
 {
-    let mut items = [Vote {
-        question: 0,
-        cell: 0,
-        quantity: 0,
-    }; MOST_VOTES];
-    for (i, text) in texts.iter().enumerate() {
-        items[i] = cast_one(agenda, &items[0..i], *text)?;
+    let texts = given.kept.as_slice();
+    let mut votes = Votes::new(NO_VOTE);
+    for text in texts {
+        let vote = cast_one(agenda, &votes, *text)?;
+        votes.push(vote).unwrap();
     }
-    Ok(Votes {
-        items,
-        count: texts.len(),
-    })
+    Ok(votes)
 }
 
 // What a vote casts that comes after these; or its place, where it is not good.
-fn cast_one(agenda: &Agenda, earlier: &[Vote], vote: VoteText) -> Result<Vote, usize>
-    requires { length earlier.now ≤ 64 }
-    ensures { result ≡ cast_one agenda.now.questions earlier.now vote }
+fn cast_one(agenda: &Agenda, earlier: &Votes, vote: VoteText) -> Result<Vote, usize>
+    ensures { result ≡ cast_one agenda.now.questions (votes_of earlier.now) vote }
 {
     let cast = cast_vote(vote);
     if suits_question(agenda.question(vote.question), vote)
@@ -68,7 +66,7 @@ fn cast_one(agenda: &Agenda, earlier: &[Vote], vote: VoteText) -> Result<Vote, u
     {
         Ok(cast)
     } else {
-        Err(earlier.len() + 1)
+        Err(earlier.as_slice().len() + 1)
     }
 }
 
@@ -76,20 +74,7 @@ fn cast_one(agenda: &Agenda, earlier: &[Vote], vote: VoteText) -> Result<Vote, u
 fn suits_question(question: Option<Question>, vote: VoteText) -> bool
     ensures { result ≡ suits question vote }
 {
-    match question {
-        Some(question) => is_kind(question.kind, vote.kind) && fits_question(question, vote),
-        None => false,
-    }
-}
-
-fn is_kind(asked: VoteKind, given: VoteKind) -> bool
-    ensures { result ≡ same_kind asked given }
-{
-    match (asked, given) {
-        (VoteKind::Ordinary, VoteKind::Ordinary) => true,
-        (VoteKind::Cumulative, VoteKind::Cumulative) => true,
-        _ => false,
-    }
+    question.is_some_and(|question| question.kind == vote.kind && fits_question(question, vote))
 }
 
 // An ordinary vote names no candidate; a cumulative one says yes to a candidate of the question.
@@ -99,13 +84,13 @@ fn fits_question(question: Question, vote: VoteText) -> bool
     match (vote.kind, vote.candidate, vote.answer) {
         (VoteKind::Ordinary, None, _) => true,
         (VoteKind::Cumulative, Some(candidate), VoteAnswer::For) => {
-            1 <= candidate && candidate <= question.candidates
+            (1..=question.candidates).contains(&candidate)
         }
         _ => false,
     }
 }
 
-// So many rights, in the cell that the vote says.
+// So many rights, in the cell that the vote says: that of the answer, or of the candidate.
 fn cast_vote(vote: VoteText) -> Vote
     ensures { result ≡ cast_vote vote }
 {
@@ -113,7 +98,7 @@ fn cast_vote(vote: VoteText) -> Vote
         question: vote.question,
         cell: match vote.kind {
             VoteKind::Ordinary => answer_cell(vote.answer),
-            VoteKind::Cumulative => candidate_cell(vote.candidate),
+            VoteKind::Cumulative => vote.candidate.unwrap_or(0),
         },
         quantity: vote.quantity,
     }
@@ -130,30 +115,12 @@ fn answer_cell(answer: VoteAnswer) -> u8
     }
 }
 
-// A cumulative question has a cell for each candidate; 0 is none.
-fn candidate_cell(candidate: Option<u8>) -> u8
-    ensures { result ≡ candidate_cell candidate }
-{
-    match candidate {
-        Some(candidate) => candidate,
-        None => 0,
-    }
-}
-
 // Is a vote cast in this cell among these?
-fn is_taken(votes: &[Vote], question: u8, cell: u8) -> bool
-    ensures { result ≡ cast_in votes.now question cell }
+fn is_taken(votes: &Votes, question: u8, cell: u8) -> bool
+    ensures { result ≡ cast_in (votes_of votes.now) question cell }
 {
-    for vote in votes {
-        if is_cast_in(*vote, question, cell) {
-            return true;
-        }
-    }
-    false
-}
-
-fn is_cast_in(vote: Vote, question: u8, cell: u8) -> bool
-    ensures { result ≡ (vote.question == question && vote.cell == cell) }
-{
-    vote.question == question && vote.cell == cell
+    votes
+        .as_slice()
+        .iter()
+        .any(|vote| vote.question == question && vote.cell == cell)
 }

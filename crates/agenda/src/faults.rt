@@ -16,6 +16,7 @@ pub enum AgendaFault {
 
 impl AgendaFault {
     // The number of the question that is answered no. None of them has a place.
+    // Stays a number: the rules name each question by it, and it is what a caller is told.
     pub fn number(self) -> u8
         ensures { result ≡ number_of self }
     {

@@ -1,5 +1,6 @@
--- Orders carried out on a register, a tally and records.
-use Rattle.std.proofs.Common.{◌≡◌, ℕ, List, Some, None, Option, sym, refl, ap, ◌∙◌, subst, arith}
+-- Orders carried out at a desk.
+use Rattle.std.proofs.Common.{◌≡◌, ℕ, List, get_or, set, Some, None, Option, sym, ap, ◌∙◌, subst, arith}
+use Rattle.std.proofs.lemmas.List.{length-map, set-get_or}
 use Rattle.std.specs.List.{slice_get}
 use Rattle.std.specs.Option.{option_map}
 use Rattle.register.specs.declared.interface.Register as Register
@@ -8,167 +9,134 @@ use Rattle.message.specs.declared.status.Process.{Process}
 use Rattle.message.specs.declared.status.StatusCode.{StatusCode}
 use Rattle.tally.specs.declared.interface.Tally as Tally
 use Rattle.tally.specs.Scale.{Scale, Group}
+use Rattle.book.specs.declared.desk.Desk.{Desk}
+use Rattle.book.specs.declared.record.Standing.{Standing}
 use Rattle.book.specs.declared.record.State.{State}
-use Rattle.book.specs.declared.record.Record.{Record}
 use Rattle.book.specs.Keyed.{put}
-use Rattle.book.specs.States.{event_of, turned}
-use Rattle.book.specs.Book.{Terms, Instruction, Situation, at, found, meaning, meanings, instructions}
-use Rattle.book.specs.Orders.{Claimed, asked, eventually, after}
+use Rattle.book.specs.States.{event_of, turned, asking}
+use Rattle.book.specs.Book.{Records, Terms, Instruction, Situation, found, in_record, meaning, meanings}
+use Rattle.book.specs.Orders.{Claimed, Ordered, asked, eventually, after}
 use Rattle.book.specs.Orders.Ordered.{lodge, cancel, report}
-use Rattle.book.specs.Storage.{Filed, Acted}
+use Rattle.book.specs.Questions.{Of, Stands, subject}
+use Rattle.book.specs.Storage.{Filed}
 use Rattle.book.specs.Moves.{Placing, Ends, Places}
-use Rattle.book.specs.Desk.{told, situation, Led}
-use Rattle.book.specs.Acting.{restated, Restates, Asks, Acts}
-use Rattle.book.proofs.Leading.{led_here, led_on}
-use Rattle.book.proofs.Places.{length_map, count_full}
-use Rattle.book.proofs.Acts.{yes_to, leads, restated_acted, ended_acted, gone, replaced_acted}
+use Rattle.book.specs.Desk.{told, shown, record_of, Served}
+use Rattle.book.specs.Acting.{Acts}
+use Rattle.book.proofs.Leading.{served_here, served_on}
+use Rattle.book.proofs.Places.{count_full}
+use Rattle.book.proofs.Acts.{restated, yes_to, leads, restated_acted, ended_acted, gone, replaced_acted}
 
-module _ {X Y : Type 0} (R : Register.Ghosts X) (T : Tally.Ghosts Y) (r : X) (t : Y) (rs : List Record) where
+module _ {X Y : Type 0} (R : Register.Ghosts X) (T : Tally.Ghosts Y) (d : Desk X Y) where
   -- a new instruction gets an empty record
-  pub lodging_acts : (terms : Terms) (n : ℕ) (r' : X) (t' : Y) (rs' : List Record) → slice_get (meanings rs) n ≡ Some None → Led R r r' → T.scale t' ≡ T.scale t → Places R T r t rs n terms r' t' rs' → (number : Option ℕ) → Acts R T r t rs (lodge terms None) number r' t' rs'
-  lodging_acts terms n r' t' rs' was led same places number = record {
-    led = led;
-    scale = same;
+  pub lodging_acts : (terms : Terms) (n : ℕ) (d' : Desk X Y) (number : Option ℕ) → slice_get (meanings d.records.now) n ≡ Some None → Places R T d n terms d' → Acts R T d (lodge terms None) number d'
+  lodging_acts terms n d' number was places = record {
+    served = places.served;
     acted = λ o f out _.
         let a = yes_to out in
         let b = yes_to a.1 in
         let c = yes_to b.1 in
-        let d = yes_to c.1 in
-        let e = yes_to d.1 in
+        let e = yes_to c.1 in
         let h = yes_to e.1 in
-        let room = h.0 in
-        let p = places o f was a.0 (omega arith) in
+        let k = yes_to h.1 in
+        let room = k.0 in
+        let p = places.placing o f was a.0 (omega arith) in
         (p.0, record { filed = p.1.filed; book = p.1.book; stays = p.1.stays });
   }
 
   -- there is one where there is room
-  pub no_room_acts : (terms : Terms) → ((n : ℕ) → slice_get (meanings rs) n ≡ Some None → ⊥) → (number : Option ℕ) → Acts R T r t rs (lodge terms None) number r t rs
-  no_room_acts terms full number = record {
-    led = led_here R r;
-    scale = refl;
+  pub no_room_acts : (terms : Terms) (number : Option ℕ) → ((n : ℕ) → slice_get (meanings d.records.now) n ≡ Some None → ⊥) → Acts R T d (lodge terms None) number d
+  no_room_acts terms number full = record {
+    served = served_here R T d;
     acted = λ o f out _.
         let a = yes_to out in
         let b = yes_to a.1 in
         let c = yes_to b.1 in
-        let d = yes_to c.1 in
-        let e = yes_to d.1 in
+        let e = yes_to c.1 in
         let h = yes_to e.1 in
-        let room = h.0 in
+        let k = yes_to h.1 in
+        let room = k.0 in
         let many = f.paired.many in
-        let all = count_full (meanings rs) full in
-        let len = length_map meaning rs in
+        let all = count_full (meanings d.records.now) full in
+        let len = length-map d.records.now meaning in
         absurd (omega arith);
   }
 
   -- a replacement: the old instruction ends, and the new one takes its record
-  pub replacement_acts : Lawful R.pairs R.room R.ordered → Group (T.scale t) → (terms : Terms) (q : List ℕ) (number : Option ℕ) (n : ℕ) (r₁ : X) (t₁ : Y) (rs₁ : List Record) (r₂ : X) (t₂ : Y) (rs₂ : List Record) → number ≡ Some n → Led R r r₁ → T.scale t₁ ≡ T.scale t → Ends R T r t rs n r₁ t₁ rs₁ → Led R r₁ r₂ → T.scale t₂ ≡ T.scale t₁ → Places R T r₁ t₁ rs₁ n terms r₂ t₂ rs₂ → Acts R T r t rs (lodge terms (Some q)) number r₂ t₂ rs₂
-  replacement_acts law g terms q number n r₁ t₁ rs₁ r₂ t₂ rs₂ is led₁ same₁ ends led₂ same₂ places = record {
-    led = led_on R r r₁ r₂ led₁ led₂;
-    scale = same₂ ∙ same₁;
+  pub replacement_acts : Lawful R.pairs R.room R.ordered → Group (T.scale d.tally.now) → (terms : Terms) (q : List ℕ) (number : Option ℕ) (n : ℕ) (e f : Desk X Y) → number ≡ Some n → Ends R T d n e → Places R T e n terms f → Acts R T d (lodge terms (Some q)) number f
+  replacement_acts law g terms q number n d₁ d₂ is ends places = record {
+    served = served_on R T d d₁ d₂ ends.served places.served;
     acted = λ o f out place.
-        let s : Situation T.Value = situation R T r t rs in
-        let u : Situation T.Value = situation R T r₁ t₁ rs₁ in
-        let v : Situation T.Value = situation R T r₂ t₂ rs₂ in
+        let s : Situation T.Value = shown R T d in
+        let u : Situation T.Value = shown R T d₁ in
+        let v : Situation T.Value = shown R T d₂ in
+        let same = ends.served.scale in
         let a = yes_to out in
-        let named : (told R r).find q ≡ Some n = sym place ∙ is in
-        let l = leads (T.scale t) g s f q n named in
-        let e = ends o f l.0 l.1 in
-        let un = gone (T.scale t) g s f terms q n l.0 u v l.2 l.3 a.0 e.1 in
+        let named : s.view.find q ≡ Some n = sym place ∙ is in
+        let l = leads (T.scale d.tally.now) g s f q n named in
+        let e = ends.ending o f l.0 l.1 in
+        let un = gone (T.scale d.tally.now) g s f terms q n l.0 u v l.2 l.3 a.0 e.1 in
         let few = e.1.fewer in
-        let most = law.within r o in
-        let fixed = led₁.fixed in
-        let p = places e.0 (subst (λ (x : Scale T.Value). Filed x u) (sym same₁) e.1.filed) e.1.emptied un (omega arith) in
-        (p.0, replaced_acted (T.scale t) g s f terms q n l.0 u v l.2 l.3 a.0 e.1 (subst (λ (x : Scale T.Value). Placing x u terms v) same₁ p.1));
+        let most = law.within d.register.now o in
+        let fixed = ends.served.led.fixed in
+        let p = places.placing e.0 (subst (λ (x : Scale T.Value). Filed x u) (sym same) e.1.filed) e.1.emptied un (omega arith) in
+        (p.0, replaced_acted (T.scale d.tally.now) g s f terms q n l.0 u v l.2 l.3 a.0 e.1 (subst (λ (x : Scale T.Value). Placing x u terms v) same p.1));
   }
 
   -- where an order names an instruction, a question has been answered that it stands
-  pub nowhere_acts : (terms : Terms) (q : List ℕ) (number : Option ℕ) → number ≡ None → Acts R T r t rs (lodge terms (Some q)) number r t rs
-  nowhere_acts terms q number is = record {
-    led = led_here R r;
-    scale = refl;
-    acted = λ o f out place.
-        let a = yes_to out in
-        let b = yes_to a.1 in
-        let st = b.0.1 in
-        let none : (told R r).find q ≡ None = sym place ∙ is in
-        let un : found (situation R T r t rs) q ≡ None = ap (Rattle.book.specs.Book.in_record (meanings rs)) none in
+  pub missing_acts : (q : List ℕ) (o : Ordered) (number : Option ℕ) (d' : Desk X Y) → subject o ≡ Some q → in_record (meanings d.records.now) number ≡ None → Served R T d d' → Acts R T d o number d'
+  missing_acts q o number d' names is served = record {
+    served = served;
+    acted = λ _ f out place.
+        let b = yes_to (yes_to out).1 in
+        let st : Stands (found (shown R T d)) q = subst (λ (x : Option (List ℕ)). Of x (Stands (found (shown R T d)))) names b.0 in
+        let w = st.1 in
+        let un : found (shown R T d) q ≡ None = ap (in_record (meanings d.records.now)) (sym (place ∙ ap (record_of (told R d.register.now)) names)) ∙ is in
         let z : ◌≡◌ {A = ℕ} 0 1 = cc in absurd (omega arith);
   }
 
-  -- a cancellation is asked
-  pub cancellation_acts : Group (T.scale t) → (q : List ℕ) (c : Claimed) (number : Option ℕ) (rs' : List Record) → Asks (meanings rs) number (meanings rs') → Acts R T r t rs (cancel q c) number r t rs'
-  cancellation_acts g q c number rs' asks = record {
-    led = led_here R r;
-    scale = refl;
-    acted = λ o f out place. (
-      o,
-      (let s : Situation T.Value = situation R T r t rs in
-          let a = yes_to out in
-          let b = yes_to a.1 in
-          standing g s f ((told R r).find q) refl b.0.0 b.0.1 place),
-    );
-  }
-    where
-      standing : Group (T.scale t) → (s : Situation T.Value) → Filed (T.scale t) (situation R T r t rs) → (x : Option ℕ) → (told R r).find q ≡ x → (j : Instruction) → found (situation R T r t rs) q ≡ Some j → number ≡ (told R r).find q → Acted (T.scale t) (situation R T r t rs) (cancel q c) (situation R T r t rs')
-      standing g s f None e j there place =
-          let un : found (situation R T r t rs) q ≡ None = ap (Rattle.book.specs.Book.in_record (meanings rs)) e in
-          let z : ◌≡◌ {A = ℕ} 0 1 = cc in absurd (omega arith)
-      standing g s f (Some n) e j there place =
-          let l = leads (T.scale t) g (situation R T r t rs) f q n e in
-          let i : Instruction = l.0 in
-          restated_acted (T.scale t) g (situation R T r t rs) f q n i (Rattle.book.specs.States.asking i.state) (cancel q c) (situation R T r t rs') e l.1 l.2
-          (λ x. ap (λ (y : Option Instruction). put (found (situation R T r t rs)) q (option_map asked y) x) l.3)
-          refl refl (asks n i (place ∙ e) l.1)
+  module _ (g : Group (T.scale d.tally.now)) (q : List ℕ) (o : Ordered) (number : Option ℕ) (n : ℕ) (names : subject o ≡ Some q) (is : number ≡ Some n) (i : Instruction) (was : slice_get (meanings d.records.now) n ≡ Some (Some i)) where
+    -- the instruction of the record named is that which the reference leads to
+    named_there : Filed (T.scale d.tally.now) (shown R T d) → number ≡ record_of (told R d.register.now) (subject o) → ((told R d.register.now).find q ≡ Some n) × (i.terms.reference ≡ q) × (found (shown R T d) q ≡ Some i)
+    named_there f place =
+        let e : (told R d.register.now).find q ≡ Some n = sym (place ∙ ap (record_of (told R d.register.now)) names) ∙ is in
+        let l = leads (T.scale d.tally.now) g (shown R T d) f q n e in
+        let w = l.1 in
+        let same : l.0 ≡ i = cc in
+        (e, sym (ap (λ (j : Instruction). j.terms.reference) same) ∙ l.2, l.3 ∙ ap {B = Option Instruction} Some same)
 
-  -- a report: the state goes on, or the instruction ends
-  module _ (g : Group (T.scale t)) (q : List ℕ) (process : Process) (code : StatusCode) (number : Option ℕ) (n : ℕ) (is : number ≡ Some n) where
-    reported : (i : Instruction) (y : Option State) → turned i.state (event_of process code) ≡ y → found (situation R T r t rs) q ≡ Some i → (x : List ℕ) → after (found (situation R T r t rs)) (report q process code) x ≡ put (found (situation R T r t rs)) q (option_map (λ st. restated st i) y) x
-    reported i y e there x =
-        ap (λ (o : Option Instruction). put (found (situation R T r t rs)) q (eventually (event_of process code) o) x) there
-        ∙ ap (λ (o : Option State). put (found (situation R T r t rs)) q (option_map (λ st. restated st i) o) x) e
-
-    pub state_acts : (i : Instruction) (state : State) (rs' : List Record) → slice_get (meanings rs) n ≡ Some (Some i) → turned i.state (event_of process code) ≡ Some state → Restates (meanings rs) n state (meanings rs') → Acts R T r t rs (report q process code) number r t rs'
-    state_acts i state rs' was turns restates = record {
-      led = led_here R r;
-      scale = refl;
-      acted = λ o f out place.
-          let e : (told R r).find q ≡ Some n = sym place ∙ is in
-          let l = leads (T.scale t) g (situation R T r t rs) f q n e in
-          let w = l.1 in
-          let same : l.0 ≡ i = cc in
-          let there : found (situation R T r t rs) q ≡ Some i = l.3 ∙ ap {B = Option Instruction} Some same in (
-            o,
-            restated_acted (T.scale t) g (situation R T r t rs) f q n i state (report q process code) (situation R T r t rs') e was (sym (ap (λ (j : Instruction). j.terms.reference) same) ∙ l.2)
-                (reported i (Some state) turns there) refl refl (restates i was),
+    -- its state goes on
+    pub restated_acts : (state : State) (d' : Desk X Y) → ((b : List ℕ → Option Instruction) → b q ≡ Some i → (x : List ℕ) → after b o x ≡ put b q (Some (restated state i)) x) → Served R T d d' → d'.register.now ≡ d.register.now → d'.tally.now ≡ d.tally.now → meanings d'.records.now ≡ set (meanings d.records.now) n (Some (restated state i)) → Acts R T d o number d'
+    restated_acts state d' goes served register tally records = record {
+      served = served;
+      acted = λ r f _ place.
+          let h = named_there f place in (
+            subst R.ordered (sym register) r,
+            restated_acted (T.scale d.tally.now) g (shown R T d) f q n i state o (shown R T d') h.0 was h.1 (goes (found (shown R T d)) h.2) (ap (told R) register) (ap T.value tally) records,
           );
     }
 
-    pub end_acts : (i : Instruction) (r' : X) (t' : Y) (rs' : List Record) → slice_get (meanings rs) n ≡ Some (Some i) → turned i.state (event_of process code) ≡ None → Led R r r' → T.scale t' ≡ T.scale t → Ends R T r t rs n r' t' rs' → Acts R T r t rs (report q process code) number r' t' rs'
-    end_acts i r' t' rs' was turns led same ends = record {
-      led = led;
-      scale = same;
-      acted = λ o f out place.
-          let e : (told R r).find q ≡ Some n = sym place ∙ is in
-          let l = leads (T.scale t) g (situation R T r t rs) f q n e in
-          let w = l.1 in
-          let eq : l.0 ≡ i = cc in
-          let there : found (situation R T r t rs) q ≡ Some i = l.3 ∙ ap {B = Option Instruction} Some eq in
-          let k = ends o f i was in (
-            k.0,
-            ended_acted (T.scale t) g (situation R T r t rs) f q n i (report q process code) (situation R T r' t' rs') (sym (ap (λ (j : Instruction). j.terms.reference) eq) ∙ l.2)
-                (reported i None turns there) k.1,
-          );
+    -- or it ends
+    pub ended_acts : (d' : Desk X Y) → ((b : List ℕ → Option Instruction) → b q ≡ Some i → (x : List ℕ) → after b o x ≡ put b q None x) → Ends R T d n d' → Acts R T d o number d'
+    ended_acts d' goes ends = record {
+      served = ends.served;
+      acted = λ r f _ place.
+          let h = named_there f place in
+          let k = ends.ending r f i was in
+          (k.0, ended_acted (T.scale d.tally.now) g (shown R T d) f q n i o (shown R T d') h.1 (goes (found (shown R T d)) h.2) k.1);
     }
 
-  -- a report about what does not stand has been refused
-  pub unreported_acts : (q : List ℕ) (process : Process) (code : StatusCode) (number : Option ℕ) → Rattle.book.specs.Book.in_record (meanings rs) number ≡ None → Acts R T r t rs (report q process code) number r t rs
-  unreported_acts q process code number is = record {
-    led = led_here R r;
-    scale = refl;
-    acted = λ o f out place.
-        let a = yes_to out in
-        let b = yes_to a.1 in
-        let st = b.0.1 in
-        let un : found (situation R T r t rs) q ≡ None = ap (Rattle.book.specs.Book.in_record (meanings rs)) (sym place) ∙ is in
-        let z : ◌≡◌ {A = ℕ} 0 1 = cc in absurd (omega arith);
-  }
+-- a record that was lent, and is as it was, is no change
+pub unread : {X Y : Type 0} (R : Register.Ghosts X) (T : Tally.Ghosts Y) (d : Desk X Y) (n : ℕ) (r s : Option Standing) → get_or d.records.now n r ≡ s → (d' : Desk X Y) → Ends R T (record d { records = record d.records { now = set d.records.now n s } }) n d' → Ends R T d n d'
+unread R T d n r s is d' e = subst (λ (rs : Records). Ends R T (record d { records = record d.records { now = rs } }) n d') (ap (set d.records.now n) (sym is) ∙ set-get_or d.records.now n r) e
+
+-- what a cancellation makes of the instruction that it names
+pub asking_goes : (q : List ℕ) (c : Claimed) (i : Instruction) (state : State) → state ≡ asking i.state → (b : List ℕ → Option Instruction) → b q ≡ Some i → (x : List ℕ) → after b (cancel q c) x ≡ put b q (Some (restated state i)) x
+asking_goes q c i state is b e x =
+    ap (λ (y : Option Instruction). put b q (option_map asked y) x) e
+    ∙ ap (λ (s : State). put b q (Some (restated s i)) x) (sym is)
+
+-- and a report
+pub report_goes : (q : List ℕ) (process : Process) (code : StatusCode) (i : Instruction) (y : Option State) → turned i.state (event_of process code) ≡ y → (b : List ℕ → Option Instruction) → b q ≡ Some i → (x : List ℕ) → after b (report q process code) x ≡ put b q (option_map (λ s. restated s i) y) x
+report_goes q process code i y turns b e x =
+    ap (λ (j : Option Instruction). put b q (eventually (event_of process code) j) x) e
+    ∙ ap (λ (s : Option State). put b q (option_map (λ s. restated s i) s) x) turns

@@ -2,13 +2,14 @@
 use Rattle.std.proofs.Common.{◌≡◌, ℕ, ◌+◌, List, length, set, Some, None, Option, sym, refl, ap, ◌∙◌, subst, inl, inr, arith, length-set}
 use Rattle.std.specs.List.{slice_get}
 use Rattle.std.proofs.lemmas.Bool.{cases_eq}
+use Rattle.std.proofs.lemmas.Option.{slice_get_within}
 use Rattle.tally.specs.Scale.{Scale, Group}
 use Rattle.tally.proofs.Joining.{cancel}
 use Rattle.book.specs.Keyed.{put}
 use Rattle.book.specs.Book.{Instruction, Situation, found, held, in_record, instructions}
 use Rattle.book.specs.Storage.{Filed, Staying}
 use Rattle.book.proofs.Keys.{cases_text, put_here, put_apart}
-use Rattle.book.proofs.Places.{nth_set_here, nth_set_apart, nth_below}
+use Rattle.book.proofs.Places.{nth_set_here, nth_set_apart}
 use Rattle.book.proofs.Weights.{size_of, weigh, total, count_set, total_set}
 
 -- the record number that the register has for an instruction, or for none
@@ -41,7 +42,7 @@ numbers n m (Some i) e = ((cc), (i, refl))
 
 module _ {V : Type 0} (scale : Scale V) (g : Group scale) (s t : Situation V) (n : ℕ) (q : List ℕ) (o o' : Option Instruction) (f : Filed scale s) (c : Change scale s t n q o o') where
   pub here : slice_get t.records n ≡ Some o'
-  here = ap (λ (rs : List (Option Instruction)). slice_get rs n) c.records ∙ nth_set_here s.records n o' (nth_below s.records n o c.was)
+  here = ap (λ (rs : List (Option Instruction)). slice_get rs n) c.records ∙ nth_set_here s.records n o' (slice_get_within s.records n o c.was)
 
   elsewhere : (m : ℕ) → (m ≡ n → ⊥) → slice_get t.records m ≡ slice_get s.records m
   elsewhere m h = ap (λ (rs : List (Option Instruction)). slice_get rs m) c.records ∙ nth_set_apart s.records n m o' h

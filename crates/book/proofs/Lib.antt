@@ -10,3 +10,4 @@ pub mod Sharing
 pub mod Verdict
 pub mod Acts
 pub mod Carrying
+pub mod Judgements

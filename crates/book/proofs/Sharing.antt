@@ -1,27 +1,16 @@
 -- Rights that are taken, looked for record by record.
-use Rattle.std.proofs.Common.{◌≡◌, ℕ, zero, suc, Bool, true, false, ◌||◌, List, [], ◌∷◌, drop, Some, None, Option, refl, ap, ◌∙◌, inl, inr, arith}
-use Rattle.std.specs.List.{slice_get}
+use Rattle.std.proofs.Common.{◌≡◌, ℕ, zero, suc, Bool, true, ◌||◌, List, [], ◌∷◌, Some, None, Option, refl, ap, ◌∙◌, inl, inr, arith}
+use Rattle.std.specs.List.{slice_get, list_any}
 use Rattle.std.proofs.lemmas.Bool.{or_cases, or_left, or_right}
 use Rattle.message.specs.Instructions.{RightsText, same_rights}
-use Rattle.book.specs.declared.record.Record.{Record}
-use Rattle.book.specs.Book.{Instruction, meaning, meanings}
-use Rattle.book.specs.Verdicts.{shared_in}
+use Rattle.book.specs.Book.{Instruction, meaning, meanings, Records}
+use Rattle.book.specs.Verdicts.{has_rights, shared_in}
 use Rattle.book.proofs.Rights.{rights_decides}
 
--- are these the rights of the instruction, if there is one?
-abbrev pub has_rights : Option Instruction → RightsText → Bool
-has_rights None rights = false
-has_rights (Some i) rights = same_rights i.terms.rights rights
-
-pub shared_cons : (o : Option Instruction) (rs : List (Option Instruction)) (rights : RightsText) → shared_in (o ∷ rs) rights ≡ (has_rights o rights || shared_in rs rights)
-shared_cons None rs rights = refl
-shared_cons (Some i) rs rights = refl
-
--- one record further
-pub shared_drop : (rs : List Record) (n : ℕ) (o : Option Instruction) (rights : RightsText) → slice_get (meanings rs) n ≡ Some o → shared_in (meanings (drop n rs)) rights ≡ (has_rights o rights || shared_in (meanings (drop (suc n) rs)) rights)
-shared_drop [] n o rights e = let z : ◌≡◌ {A = ℕ} 0 1 = cc in absurd (omega arith)
-shared_drop (r ∷ rs) zero o rights e = let w : meaning r ≡ o = cc in shared_cons (meaning r) (meanings rs) rights ∙ ap (λ (x : Option Instruction). has_rights x rights || shared_in (meanings rs) rights) w
-shared_drop (r ∷ rs) (suc n) o rights e = shared_drop rs n o rights e
+-- rights that are looked for among the meanings are looked for in the records
+pub shared_meant : (rs : Records) (rights : RightsText) → shared_in (meanings rs) rights ≡ list_any (λ r. has_rights (meaning r) rights) rs
+shared_meant [] rights = refl
+shared_meant (r ∷ rs) rights = ap (λ (b : Bool). has_rights (meaning r) rights || b) (shared_meant rs rights)
 
 -- in words: some record holds an instruction with these rights
 pub shared_there : (rs : List (Option Instruction)) (rights : RightsText) → shared_in rs rights ≡ true → (n : ℕ) × (i : Instruction) × (slice_get rs n ≡ Some (Some i)) × (i.terms.rights ≡ rights)

@@ -26,10 +26,10 @@ use Rattle.book.proofs.Rights.{rights_decides}
 use Rattle.book.proofs.Sharing.{shared_there, shared_at}
 
 -- two values that one thing has at once
-clash : {A : Type 0} {x : A} {y : Option A} → y ≡ Some x → y ≡ None → ⊥
+pub clash : {A : Type 0} {x : A} {y : Option A} → y ≡ Some x → y ≡ None → ⊥
 clash e n = let z : ◌≡◌ {A = ℕ} 0 1 = cc in omega arith
 
-differ : {b : Bool} → b ≡ true → b ≡ false → ⊥
+pub differ : {b : Bool} → b ≡ true → b ≡ false → ⊥
 differ e n = let z : ◌≡◌ {A = ℕ} 0 1 = cc in omega arith
 
 -- a standing instruction agrees with a claim exactly where the test says so

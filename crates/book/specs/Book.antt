@@ -1,6 +1,7 @@
 -- A situation: what the register, the tally and the records hold between two calls; and what is found standing in it. Assumes nothing.
 use Rattle.std.specs.Prelude.{ℕ, List, [], ◌∷◌, ◌++◌, map, Some, None, Option}
 use Rattle.std.specs.List.{slice_get}
+use Rattle.std.specs.Option.{option_map}
 use Rattle.register.specs.Runs.{View}
 use Rattle.register.specs.Spelling.{spelling}
 use Rattle.tally.specs.declared.vote.Vote.{Vote}
@@ -10,8 +11,6 @@ use Rattle.agenda.specs.Votes.{votes_of}
 use Rattle.book.specs.declared.record.State.{State}
 use Rattle.book.specs.declared.record.Lodging.{Lodging}
 use Rattle.book.specs.declared.record.Standing.{Standing}
-use Rattle.book.specs.declared.record.Record.{Record}
-use Rattle.book.specs.declared.record.Record.TheVariants.{Empty, Holds}
 
 -- what an instruction is lodged with, in plain texts and numbers
 pub record Terms : Type 0 where
@@ -42,11 +41,14 @@ abbrev pub instruction_of : Standing → Instruction
 instruction_of s = record { terms = terms_of s.lodging; state = s.state }
 
 -- what a record means: nothing, or a standing instruction
-abbrev pub meaning : Record → Option Instruction
-meaning Empty = None
-meaning (Holds s) = Some (instruction_of s)
+abbrev pub meaning : Option Standing → Option Instruction
+meaning r = option_map instruction_of r
 
-abbrev pub meanings : List Record → List (Option Instruction)
+-- the records of a meeting
+abbrev pub Records : Type 0
+Records = List (Option Standing)
+
+abbrev pub meanings : Records → List (Option Instruction)
 meanings rs = map meaning rs
 
 -- which record number the register has for each reference, and how many it has; the value of the tally; and what the records mean

@@ -3,9 +3,8 @@ use Rattle.std.specs.Prelude.{◌≡◌, ℕ, List, length, Some, None, Ok, Err,
 use Rattle.register.specs.declared.interface.Register as Register
 use Rattle.message.specs.declared.status.Process.{Process}
 use Rattle.message.specs.declared.status.StatusCode.{StatusCode}
-use Rattle.book.specs.declared.record.Record.{Record}
 use Rattle.book.specs.declared.faults.BookFault.{BookFault}
-use Rattle.book.specs.Book.{Terms, meanings, finds_in, instructions}
+use Rattle.book.specs.Book.{Terms, meanings, finds_in, instructions, Records}
 use Rattle.book.specs.Orders.{Claimed, Ordered}
 use Rattle.book.specs.Orders.Ordered.{lodge, cancel, report}
 use Rattle.book.specs.Questions.{subject}
@@ -17,7 +16,7 @@ abbrev pub answered : Option BookFault → Option ℕ → Result (Option ℕ) Bo
 answered (Some f) n = Err f
 answered None n = Ok n
 
-module _ {X : Type 0} (R : Register.Ghosts X) (r : X) (rs : List Record) where
+module _ {X : Type 0} (R : Register.Ghosts X) (r : X) (rs : Records) where
   -- why the order is refused, where as many stand as the records hold
   abbrev pub fault : Ordered → Option BookFault
   fault o = verdict (finds_in (told R r) (meanings rs)) (shared_in (meanings rs)) (length (instructions (meanings rs))) (room_for R r rs) o

@@ -1,5 +1,6 @@
 -- Why an order is refused, computed from what is found standing. Assumes nothing.
-use Rattle.std.specs.Prelude.{ℕ, Bool, true, false, cond, ◌&&◌, ◌||◌, List, [], ◌∷◌, is_some, Some, None, Option, ◌==◌, nat_lt}
+use Rattle.std.specs.Prelude.{ℕ, Bool, true, false, cond, ◌&&◌, List, is_some, Some, None, Option, ◌==◌, nat_lt}
+use Rattle.std.specs.List.{list_any}
 use Rattle.std.specs.Str.{bytes_eq}
 use Rattle.message.specs.Instructions.{RightsText, same_rights}
 use Rattle.message.specs.declared.status.Process.{Process}
@@ -11,11 +12,14 @@ use Rattle.book.specs.Book.{Terms, Instruction}
 use Rattle.book.specs.Orders.{Claimed, Ordered}
 use Rattle.book.specs.Orders.Ordered.{lodge, cancel, report}
 
+-- are these the rights of the instruction, if there is one?
+abbrev pub has_rights : Option Instruction → RightsText → Bool
+has_rights None rights = false
+has_rights (Some i) rights = same_rights i.terms.rights rights
+
 -- does an instruction with these rights stand in some record?
 abbrev pub shared_in : List (Option Instruction) → RightsText → Bool
-shared_in [] rights = false
-shared_in (None ∷ rs) rights = shared_in rs rights
-shared_in (Some i ∷ rs) rights = same_rights i.terms.rights rights || shared_in rs rights
+shared_in rs rights = list_any (λ o. has_rights o rights) rs
 
 -- why a new instruction that replaces none is refused: does its reference stand, are its rights taken, is there room?
 abbrev pub lodging_fault : Bool → Bool → ℕ → ℕ → Option BookFault

@@ -1,18 +1,18 @@
 // Carrying out an order that no question refused.
 ghost use Rattle.std.specs.Prelude.{◌≡◌, ℕ, List, Some, None, Option as Maybe};
 ghost use Rattle.register.specs.Spelling.{spelling};
-ghost use Rattle.book.specs.Book.{meanings, terms_of};
-ghost use Rattle.book.specs.Orders.{claimed, ordered};
+ghost use Rattle.book.specs.Book.{terms_of};
+ghost use Rattle.book.specs.Orders.{Claimed, ordered};
 ghost use Rattle.book.specs.Orders.Ordered.{lodge, cancel, report};
 ghost use Rattle.book.specs.Deeds.{deed, deed_of, event_deed};
-ghost use Rattle.book.specs.Acting.{Restates, Asks, Acts};
+ghost use Rattle.book.specs.Acting.{Acts};
 ghost use Rattle.book.specs.States.{event_of};
 ghost use Rattle.message.specs.declared.status.Process.{Process as ProcessOf};
 ghost use Rattle.message.specs.declared.status.StatusCode.{StatusCode as CodeOf};
 
-use crate::moves::{end, place, standing_at, vacant};
+use crate::desk::Desk;
 use crate::order::Order;
-use crate::record::{Lodging, Record, Standing, State};
+use crate::record::Lodging;
 use crate::status::StatusEvent;
 use register::interface::Register;
 use register::reference::Reference;
@@ -59,95 +59,69 @@ pub fn taken_by(order: &Order) -> Taken
     }
 }
 
-// Puts the instruction in a record into this state.
-fn set_state(records: &mut [Record], n: usize, state: State)
-    ensures { Restates (meanings records.old) n state (meanings records.new) }
-{
-    if let Some(standing) = standing_at(records, n) {
-        let lodging = standing.lodging;
-        records[n] = Record::Holds(Standing { lodging, state });
-    }
-}
-
-fn act_lodging<R: Register, T: Tally>(
-    register: &mut R,
-    tally: &mut T,
-    records: &mut [Record],
-    lodging: &Lodging,
-)
-    ensures { (number : Maybe ℕ) → Acts R.Register T.Tally register.old tally.old records.old (lodge (terms_of lodging.now) None) number register.new tally.new records.new }
-{
-    if let Some(n) = vacant(records) {
-        place(register, tally, records, n, lodging);
-    }
-}
-
-// The new instruction takes the record that the old one leaves.
-fn act_replacement<R: Register, T: Tally>(
-    register: &mut R,
-    tally: &mut T,
-    records: &mut [Record],
-    lodging: &Lodging,
-    number: Option<usize>,
-)
-    ensures { (q : List ℕ) → Acts R.Register T.Tally register.old tally.old records.old (lodge (terms_of lodging.now) (Some q)) number register.new tally.new records.new }
-{
-    if let Some(n) = number {
-        end(register, tally, records, n);
-        place(register, tally, records, n, lodging);
-    }
-}
-
-fn act_cancellation(records: &mut [Record], number: Option<usize>)
-    ensures { Asks (meanings records.old) number (meanings records.new) }
-{
-    if let Some(n) = number {
-        if let Some(standing) = standing_at(records, n) {
-            let state = standing.state.with_cancellation_asked();
-            set_state(records, n, state);
+impl<R: Register, T: Tally> Desk<'_, R, T> {
+    fn act_lodging(&mut self, lodging: &Lodging)
+        ensures { (number : Maybe ℕ) → Acts R.Register T.Tally self.old (lodge (terms_of lodging.now) None) number self.new }
+    {
+        if let Some(n) = self.vacant() {
+            self.place(n, lodging);
         }
     }
-}
 
-// The state goes on, or the instruction ends.
-fn act_report<R: Register, T: Tally>(
-    register: &mut R,
-    tally: &mut T,
-    records: &mut [Record],
-    number: Option<usize>,
-    event: StatusEvent,
-)
-    ensures { (q : List ℕ) (process : ProcessOf) (code : CodeOf) → event_of process code ≡ event → Acts R.Register T.Tally register.old tally.old records.old (report q process code) number register.new tally.new records.new }
-{
-    let Some(n) = number else {
-        return;
-    };
-    let Some(standing) = standing_at(records, n) else {
-        return;
-    };
-    match standing.state.after(event) {
-        Some(state) => set_state(records, n, state),
-        None => end(register, tally, records, n),
+    // The new instruction takes the record that the old one leaves.
+    fn act_replacement(&mut self, lodging: &Lodging, number: Option<usize>)
+        ensures { (q : List ℕ) → Acts R.Register T.Tally self.old (lodge (terms_of lodging.now) (Some q)) number self.new }
+    {
+        if let Some(n) = number {
+            self.end(n);
+            self.place(n, lodging);
+        }
     }
-}
 
-// Carries out an order that no question refused, where `number` is the record of the instruction that it names.
-pub fn act<R: Register, T: Tally>(
-    register: &mut R,
-    tally: &mut T,
-    records: &mut [Record],
-    order: &Order,
-    number: Option<usize>,
-)
-    ensures { Acts R.Register T.Tally register.old tally.old records.old (ordered order.now) number register.new tally.new records.new }
-{
-    match order {
-        Order::Lodge(lodging) => act_lodging(register, tally, records, lodging),
-        Order::Replace(lodging, _) => act_replacement(register, tally, records, lodging, number),
-        Order::Cancel(_, _) => act_cancellation(records, number),
-        Order::Report(_, process, code) => {
-            let event = StatusEvent::of(*process, *code);
-            act_report(register, tally, records, number, event);
+    // The cancellation is asked.
+    fn act_cancellation(&mut self, number: Option<usize>)
+        ensures { (q : List ℕ) (c : Claimed) → Acts R.Register T.Tally self.old (cancel q c) number self.new }
+    {
+        let Some(n) = number else {
+            return;
+        };
+        if n >= self.records.len() {
+            return;
+        }
+        if let Some(standing) = &mut self.records[n] {
+            standing.state = standing.state.with_cancellation_asked();
+        }
+    }
+
+    // The state goes on, or the instruction ends.
+    fn act_report(&mut self, number: Option<usize>, event: StatusEvent)
+        ensures { (q : List ℕ) (process : ProcessOf) (code : CodeOf) → event_of process code ≡ event → Acts R.Register T.Tally self.old (report q process code) number self.new }
+    {
+        let Some(n) = number else {
+            return;
+        };
+        if n >= self.records.len() {
+            return;
+        }
+        if let Some(standing) = &mut self.records[n] {
+            match standing.state.after(event) {
+                Some(state) => standing.state = state,
+                None => self.end(n),
+            }
+        }
+    }
+
+    // Carries out an order that no question refused, where `number` is the record of the instruction that it names.
+    pub fn act(&mut self, order: &Order, number: Option<usize>)
+        ensures { Acts R.Register T.Tally self.old (ordered order.now) number self.new }
+    {
+        match order {
+            Order::Lodge(lodging) => self.act_lodging(lodging),
+            Order::Replace(lodging, _) => self.act_replacement(lodging, number),
+            Order::Cancel(_, _) => self.act_cancellation(number),
+            Order::Report(_, process, code) => {
+                self.act_report(number, StatusEvent::of(*process, *code))
+            }
         }
     }
 }

@@ -43,6 +43,7 @@ pub enum Origin {
 
 impl BookFault {
     // The number of the question that is answered no.
+    // Stays a number: the rules name each question by it, and it is what a caller is told.
     pub fn number(self) -> u8
         ensures { result ≡ number_of self }
     {

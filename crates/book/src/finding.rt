@@ -21,13 +21,10 @@ pub struct Finding {
 fn tell(standing: Option<&Standing>) -> Option<Finding>
     ensures { result ≡ option_map (λ x. finding_of (instruction_of x.now)) standing.entry }
 {
-    match standing {
-        Some(standing) => Some(Finding {
-            state: standing.state,
-            holding: standing.lodging.holding,
-        }),
-        None => None,
-    }
+    standing.map(|standing| Finding {
+        state: standing.state,
+        holding: standing.lodging.holding,
+    })
 }
 
 // What stands under a reference, if anything. A text that is no reference finds nothing.
@@ -35,9 +32,7 @@ pub fn find<R: Register>(register: &mut R, records: &[Record], text: &[u8]) -> O
     ensures led { Led R.Register register.old register.new }
     ensures tells { R.Register.ordered register.old → Tells R.Register register.old records.now text.now result register.new }
 {
-    let Some(reference) = Reference::new(text) else {
-        return None;
-    };
+    let reference = Reference::new(text)?;
     let number = look_up(register, &reference);
     tell(standing_in(records, number))
 }

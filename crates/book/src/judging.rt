@@ -6,8 +6,9 @@ ghost use Rattle.message.specs.Instructions.{rights_of};
 ghost use Rattle.book.specs.Book.{instruction_of, terms_of};
 ghost use Rattle.book.specs.Orders.{claimed, ordered};
 ghost use Rattle.book.specs.Verdicts.{agrees as claim_holds, may_report, lodging_fault, replacement_fault, cancellation_fault, report_fault};
+ghost use Rattle.book.specs.Questions.{refusal};
 ghost use Rattle.book.specs.Desk.{Led, InOrder, Judged};
-ghost use Rattle.book.specs.Judging.{answered, JudgesLodging, JudgesReplacement, JudgesCancellation, JudgesReport, Judges};
+ghost use Rattle.book.specs.Judging.{JudgesLodging, JudgesReplacement, JudgesCancellation, JudgesReport, Judges};
 
 use crate::faults::BookFault;
 use crate::moves::{count_standing, is_shared, look_up, standing_in};
@@ -17,72 +18,65 @@ use message::status::Process;
 use register::interface::Register;
 use register::reference::Reference;
 
-// Why a new instruction that replaces none is refused, if it is.
-fn lodging_fault(stands: bool, shared: bool, standing: usize, room: usize) -> Option<BookFault>
-    ensures { result ≡ lodging_fault stands shared standing room }
+// May a new instruction that replaces none be lodged?
+fn check_lodging(stands: bool, shared: bool, standing: usize, room: usize) -> Result<(), BookFault>
+    ensures { refusal result ≡ lodging_fault stands shared standing room }
 {
     if stands {
-        return Some(BookFault::AlreadyStanding);
+        return Err(BookFault::AlreadyStanding);
     }
     if shared {
-        return Some(BookFault::RightsTaken);
+        return Err(BookFault::RightsTaken);
     }
-    if standing < room {
-        None
-    } else {
-        Some(BookFault::Full)
+    if standing >= room {
+        return Err(BookFault::Full);
     }
+    Ok(())
 }
 
-// Why a new instruction that replaces another, which stands or not, is refused, if it is.
-fn replacement_fault(
+// May a new instruction replace another, which stands or not?
+fn check_replacement(
     known: bool,
     replaced: Option<&Standing>,
     lodging: &Lodging,
-) -> Option<BookFault>
-    ensures { result ≡ replacement_fault known (option_map (λ x. instruction_of x.now) replaced.entry) (rights_of lodging.now.rights) }
+) -> Result<(), BookFault>
+    ensures { refusal result ≡ replacement_fault known (option_map (λ x. instruction_of x.now) replaced.entry) (rights_of lodging.now.rights) }
 {
     if known {
-        return Some(BookFault::AlreadyStanding);
+        return Err(BookFault::AlreadyStanding);
     }
-    let Some(replaced) = replaced else {
-        return Some(BookFault::NotStanding);
-    };
+    let replaced = replaced.ok_or(BookFault::NotStanding)?;
     if replaced.state.is_asked() {
-        return Some(BookFault::CancellationAsked);
+        return Err(BookFault::CancellationAsked);
     }
-    if replaced.lodging.rights.is(&lodging.rights) {
-        None
-    } else {
-        Some(BookFault::Differs)
+    if replaced.lodging.rights != lodging.rights {
+        return Err(BookFault::Differs);
     }
+    Ok(())
 }
 
 // Has the instruction the rights identifier, account, option and holding that a cancellation claims?
 fn claim_holds(lodging: &Lodging, claim: &Claim) -> bool
     ensures { result ≡ claim_holds (terms_of lodging.now) (claimed claim.now) }
 {
-    lodging.rights.is(&claim.rights)
-        && lodging.account.is(&claim.account)
-        && lodging.option.is(&claim.option)
+    lodging.rights == claim.rights
+        && lodging.account == claim.account
+        && lodging.option == claim.option
         && lodging.holding == claim.holding
 }
 
-// Why a cancellation is refused, if it is.
-fn cancellation_fault(previous: Option<&Standing>, claim: &Claim) -> Option<BookFault>
-    ensures { result ≡ cancellation_fault (option_map (λ x. instruction_of x.now) previous.entry) (claimed claim.now) }
+// May the cancellation of an instruction, which stands or not, be asked?
+fn check_cancellation(previous: Option<&Standing>, claim: &Claim) -> Result<(), BookFault>
+    ensures { refusal result ≡ cancellation_fault (option_map (λ x. instruction_of x.now) previous.entry) (claimed claim.now) }
 {
-    let Some(previous) = previous else {
-        return Some(BookFault::NotStanding);
-    };
+    let previous = previous.ok_or(BookFault::NotStanding)?;
     if previous.state.is_asked() {
-        return Some(BookFault::CancellationAsked);
+        return Err(BookFault::CancellationAsked);
     }
-    if claim_holds(&previous.lodging, claim) {
-        None
-    } else {
-        Some(BookFault::Differs)
+    if !claim_holds(&previous.lodging, claim) {
+        return Err(BookFault::Differs);
     }
+    Ok(())
 }
 
 // A report on a cancellation may only be about an instruction whose cancellation is asked.
@@ -95,18 +89,15 @@ fn may_report(process: Process, asked: bool) -> bool
     }
 }
 
-// Why a report is refused, if it is.
-fn report_fault(related: Option<&Standing>, process: Process) -> Option<BookFault>
-    ensures { result ≡ report_fault (option_map (λ x. instruction_of x.now) related.entry) process }
+// May a report be about an instruction, which stands or not?
+fn check_report(related: Option<&Standing>, process: Process) -> Result<(), BookFault>
+    ensures { refusal result ≡ report_fault (option_map (λ x. instruction_of x.now) related.entry) process }
 {
-    let Some(related) = related else {
-        return Some(BookFault::NotStanding);
-    };
-    if may_report(process, related.state.is_asked()) {
-        None
-    } else {
-        Some(BookFault::CancellationNotAsked)
+    let related = related.ok_or(BookFault::NotStanding)?;
+    if !may_report(process, related.state.is_asked()) {
+        return Err(BookFault::CancellationNotAsked);
     }
+    Ok(())
 }
 
 // How many can stand: as many as there are records, and as the register can hold.
@@ -116,16 +107,7 @@ fn room_for<R: Register>(register: &R, records: &[Record]) -> usize
     records.len().min(register.capacity())
 }
 
-// The fault, or else the number of the record.
-fn answer(fault: Option<BookFault>, number: Option<usize>) -> Result<Option<usize>, BookFault>
-    ensures { result ≡ answered fault number }
-{
-    match fault {
-        Some(fault) => Err(fault),
-        None => Ok(number),
-    }
-}
-
+// Stays beside the desk: judging asks the register and reads the records, and by these types it changes neither the records nor the tally.
 fn judge_lodging<R: Register>(
     register: &mut R,
     records: &[Record],
@@ -138,7 +120,8 @@ fn judge_lodging<R: Register>(
     let shared = is_shared(records, &lodging.rights);
     let standing = count_standing(records);
     let room = room_for(register, records);
-    answer(lodging_fault(stands, shared, standing, room), None)
+    check_lodging(stands, shared, standing, room)?;
+    Ok(None)
 }
 
 fn judge_replacement<R: Register>(
@@ -153,7 +136,8 @@ fn judge_replacement<R: Register>(
     let stands = standing_in(records, number).is_some();
     let replaced = look_up(register, previous);
     let standing = standing_in(records, replaced);
-    answer(replacement_fault(stands, standing, lodging), replaced)
+    check_replacement(stands, standing, lodging)?;
+    Ok(replaced)
 }
 
 fn judge_cancellation<R: Register>(
@@ -166,7 +150,8 @@ fn judge_cancellation<R: Register>(
 {
     let number = look_up(register, previous);
     let standing = standing_in(records, number);
-    answer(cancellation_fault(standing, claim), number)
+    check_cancellation(standing, claim)?;
+    Ok(number)
 }
 
 fn judge_report<R: Register>(
@@ -179,7 +164,8 @@ fn judge_report<R: Register>(
 {
     let number = look_up(register, related);
     let standing = standing_in(records, number);
-    answer(report_fault(standing, process), number)
+    check_report(standing, process)?;
+    Ok(number)
 }
 
 // Puts the questions to an order: the first that is answered no refuses it. Else answers the record of the instruction that the order names,

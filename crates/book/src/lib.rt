@@ -2,6 +2,7 @@
 #![tactic(auto)]
 
 pub mod acting;
+pub mod desk;
 pub mod faults;
 pub mod finding;
 pub mod judging;

@@ -30,8 +30,4 @@ pub struct Standing {
 }
 
 // A record is empty, or holds a standing instruction.
-#[derive(Clone, Copy)]
-pub enum Record {
-    Empty,
-    Holds(Standing),
-}
+pub type Record = Option<Standing>;

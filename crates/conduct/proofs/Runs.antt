@@ -22,8 +22,9 @@ use Rattle.meeting.proofs.Heard.{heard_said}
 use Rattle.conduct.specs.declared.call.Call.{Call}
 use Rattle.conduct.specs.declared.call.Call.TheVariants.{Take, Ask, Close}
 use Rattle.conduct.specs.declared.call.Answer.{Answer}
+use Rattle.conduct.specs.declared.call.Answer.TheVariants.{Taken}
 use Rattle.conduct.specs.Laws.{Sound}
-use Rattle.conduct.specs.Run.{Meter, Terms, Called, Conducted, take_answer, order_in, is_taken, taken_by, taken}
+use Rattle.conduct.specs.Run.{Meter, Terms, Called, Conducted, order_in, is_taken, taken_by, taken}
 use Rattle.conduct.proofs.Counts.{sound_opened}
 use Rattle.conduct.proofs.Steps.{sound_acted}
 
@@ -67,7 +68,7 @@ module _ {V : Type 0} (m : Meter V) (w : Terms) where
       by (Err e) g = g.1
       by (Ok g) x = x.leaves
 
-  sound_take : (s t : Situation V) (number : ℕ) (text : List ℕ) (a : Answer) (r : Result Done BookFault) (h : List Ordered) → Sound m.scale s h → a ≡ take_answer r → Taking m.scale w.notice w.room w.entries s number text (done r) t → Sound m.scale t (h ++ cond (is_taken a) (option_to_list (order_in number text)) [])
+  sound_take : (s t : Situation V) (number : ℕ) (text : List ℕ) (a : Answer) (r : Result Done BookFault) (h : List Ordered) → Sound m.scale s h → a ≡ Taken r → Taking m.scale w.notice w.room w.entries s number text (done r) t → Sound m.scale t (h ++ cond (is_taken a) (option_to_list (order_in number text)) [])
   sound_take s t number text a (Ok d) h sound e k = subst (λ (x : Answer). Sound m.scale t (h ++ cond (is_taken x) (option_to_list (order_in number text)) [])) (sym e) (sound_taking s t number text d h sound k)
   sound_take s t number text a (Err f) h sound e k = subst (λ (x : Answer). Sound m.scale t (h ++ cond (is_taken x) (option_to_list (order_in number text)) [])) (sym e) (sound_kept s t h sound (kept_refused s t number text f k))
 

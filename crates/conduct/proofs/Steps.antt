@@ -1,19 +1,14 @@
 -- That soundness outlasts a taken order.
-use Rattle.std.proofs.Common.{◌≡◌, ℕ, ◌⊎◌, List, [], ◌∷◌, ◌++◌, Some, None, inl, inr, arith}
+use Rattle.std.proofs.Common.{ℕ, List, [], ◌∷◌, ◌++◌, None}
 use Rattle.tally.specs.Scale.{Scale}
-use Rattle.book.specs.declared.faults.BookFault.{BookFault}
 use Rattle.book.specs.Book.{Situation, found}
 use Rattle.book.specs.Orders.{Ordered}
 use Rattle.book.specs.Questions.{Outcome, questions}
 use Rattle.book.specs.Storage.{Acted}
+use Rattle.book.proofs.Acts.{yes_to}
 use Rattle.conduct.specs.Laws.{Sound}
 use Rattle.conduct.proofs.Turns.{told_more, apart_more}
 use Rattle.conduct.proofs.Counts.{counted}
-
--- where nothing is refused, the first question is answered yes, and so on
-yes_to : {P Q : Type 0} {N : BookFault → Type 0} → (P × Q) ⊎ ((f : BookFault) × N f × (None ≡ Some f)) → P × Q
-yes_to (inl p) = p
-yes_to (inr p) = let w = p.2 in let z : ◌≡◌ {A = ℕ} 0 1 = cc in absurd (omega arith)
 
 pub sound_acted : {V : Type 0} (scale : Scale V) (s t : Situation V) (o : Ordered) (taken : List Ordered) (room : ℕ) → Sound scale s taken → Acted scale s o t → Outcome (questions (found s) s.view.size room o) None → Sound scale t (taken ++ o ∷ [])
 sound_acted scale s t o taken room sound acted outcome =

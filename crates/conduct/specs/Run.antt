@@ -1,5 +1,5 @@
 -- A run of a meeting: its calls with their answers, from the opening on. Assumes nothing.
-use Rattle.std.specs.Prelude.{◌≡◌, ℕ, ◌+◌, ◌<◌, ◌≤◌, min, Bool, true, false, cond, List, [], ◌∷◌, ◌++◌, length, take, Some, Ok, Err, Option, Result}
+use Rattle.std.specs.Prelude.{◌≡◌, ℕ, ◌+◌, ◌<◌, ◌≤◌, min, Bool, false, cond, List, [], ◌∷◌, ◌++◌, length, take, is_ok, Some, Option, Result}
 use Rattle.std.specs.List.{slice_get}
 use Rattle.std.specs.Option.{option_to_list}
 use Rattle.tally.specs.Scale.{Scale}
@@ -37,11 +37,6 @@ pub record Terms : Type 0 where
   pub room : ℕ
   pub entries : ℕ
 
--- the answer to a taking
-abbrev pub take_answer : Result Taken BookFault → Answer
-take_answer (Ok d) = A.Taken d
-take_answer (Err f) = A.Refused f
-
 -- a question answers what is found. How often a front asked below is the register's own matter.
 abbrev pub Replied : {V : Type 0} → Meter V → Notice → Situation V → Question → Reply → Type 0
 Replied m n s (Q.State q) a = a ≡ P.State (found_as q.now (found s q.now))
@@ -52,7 +47,7 @@ Replied m n s (Q.Asked depth) a = (k : Option ℕ) × (a ≡ P.Asked k)
 
 -- one call, from a situation to the next: a taking by its rules; a question and a closing change nothing
 abbrev pub Called : {V : Type 0} → Meter V → Terms → Situation V → Call → Answer → Situation V → Type 0
-Called m w s (C.Take number text) a t = (r : Result Taken BookFault) × (a ≡ take_answer r) × Taking m.scale w.notice w.room w.entries s number text.now (done r) t
+Called m w s (C.Take number text) a t = (r : Result Taken BookFault) × (a ≡ A.Taken r) × Taking m.scale w.notice w.room w.entries s number text.now (done r) t
 Called m w s (C.Ask q) a t = (r : Reply) × (a ≡ A.Told r) × Replied m w.notice s q r × (t ≡ s)
 Called m w s C.Close a t = (a ≡ A.Closed) × (t ≡ s)
 
@@ -61,8 +56,7 @@ abbrev pub order_in : ℕ → List ℕ → Option Ordered
 order_in number text = and_then (said number text) order_of
 
 abbrev pub is_taken : Answer → Bool
-is_taken (A.Taken d) = true
-is_taken (A.Refused f) = false
+is_taken (A.Taken r) = is_ok r
 is_taken (A.Told r) = false
 is_taken A.Closed = false
 

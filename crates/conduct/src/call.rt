@@ -40,10 +40,8 @@ pub enum Reply {
 
 #[derive(Clone, Copy)]
 pub enum Answer {
-    // The message was taken, and did this.
-    Taken(Deed),
-    // The message was refused.
-    Refused(BookFault),
+    // The message was taken, and did this; or was refused.
+    Taken(Result<Deed, BookFault>),
     Told(Reply),
     Closed,
 }

@@ -2,16 +2,14 @@
 ghost use Rattle.std.specs.Prelude.{◌≡◌, ℕ, ◌≤◌, min, length, is_some};
 ghost use Rattle.std.specs.List.{slice_get};
 ghost use Rattle.book.specs.Desk.{Led};
-ghost use Rattle.meeting.specs.Notices.{convened, concluded, drafted};
-ghost use Rattle.conduct.specs.Run.{Made, take_answer};
+ghost use Rattle.meeting.specs.Notices.{convened, drafted};
+ghost use Rattle.conduct.specs.Run.{Made};
 ghost use Rattle.conduct.specs.Conducting.{over, notice_of, Goes, Asks, Puts, Conducts};
 
 use crate::call::{Answer, Call, Question, Reply};
-use book::acting::Taken;
-use book::faults::BookFault;
 use book::record::Record;
 use meeting::draft::Draft;
-use meeting::meeting::{ClosedMeeting, Meeting};
+use meeting::meeting::{ClosedMeeting, Meeting, Taking};
 use reader::table::Entry;
 use register::interface::Register;
 use tally::interface::Tally;
@@ -19,13 +17,13 @@ use tally::interface::Tally;
 // A meeting on its way: sitting, or over.
 #[derive(Drop)]
 pub enum Phase {
-    Sitting(Meeting),
+    Sitting(Meeting<Taking>),
     Over(ClosedMeeting),
 }
 
-// Asks a meeting that is sitting.
-fn ask_sitting<R: Register, T: Tally>(
-    meeting: &Meeting,
+// Asks a meeting, sitting or over.
+fn ask<S, R: Register, T: Tally>(
+    meeting: &Meeting<S>,
     register: &mut R,
     tally: &T,
     records: &[Record],
@@ -43,37 +41,8 @@ fn ask_sitting<R: Register, T: Tally>(
     }
 }
 
-// Asks a meeting that is over.
-fn ask_over<R: Register, T: Tally>(
-    meeting: &ClosedMeeting,
-    register: &mut R,
-    tally: &T,
-    records: &[Record],
-    question: Question<'_>,
-) -> Reply
-    ensures led { Led R.Register register.old register.new }
-    ensures asks { Asks R.Register T.Tally (concluded meeting.now) register.old tally.now records.now question.entry result register.new }
-{
-    match question {
-        Question::State(reference) => Reply::State(meeting.state(register, records, reference)),
-        Question::Figure(question, cell) => Reply::Figure(meeting.figure(tally, question, cell)),
-        Question::Total => Reply::Total(meeting.total(tally)),
-        Question::Standing => Reply::Standing(meeting.standing(records)),
-        Question::Asked(depth) => Reply::Asked(register.asked_at(depth)),
-    }
-}
-
-// The answer to a taking.
-fn answer_to(taken: Result<Taken, BookFault>) -> Answer
-    ensures { result ≡ take_answer taken }
-{
-    match taken {
-        Ok(deed) => Answer::Taken(deed),
-        Err(fault) => Answer::Refused(fault),
-    }
-}
-
 // Puts one call to a meeting, if it can still be made.
+// Stays with a register, a tally and records: no desk, since a meeting is lent the three, and takes the desk apart again.
 fn put<R: Register, T: Tally>(
     phase: Phase,
     register: &mut R,
@@ -92,18 +61,17 @@ fn put<R: Register, T: Tally>(
         Phase::Sitting(meeting) => match *call {
             Call::Take(number, text) => {
                 let taken = meeting.take(register, tally, records, table, number, text);
-                let answer = answer_to(taken);
-                (Phase::Sitting(meeting), Some(answer))
+                (Phase::Sitting(meeting), Some(Answer::Taken(taken)))
             }
             Call::Ask(question) => {
-                let reply = ask_sitting(&meeting, register, tally, records, question);
+                let reply = ask(&meeting, register, tally, records, question);
                 (Phase::Sitting(meeting), Some(Answer::Told(reply)))
             }
             Call::Close => (Phase::Over(meeting.close()), Some(Answer::Closed)),
         },
         Phase::Over(closed) => match *call {
             Call::Ask(question) => {
-                let reply = ask_over(&closed, register, tally, records, question);
+                let reply = ask(&closed, register, tally, records, question);
                 (Phase::Over(closed), Some(Answer::Told(reply)))
             }
             Call::Take(..) | Call::Close => (Phase::Over(closed), None),
@@ -135,6 +103,7 @@ pub fn conduct<R: Register, T: Tally>(
 {
     let mut phase = Phase::Sitting(draft.open(register, tally, records));
     let n = answerable(calls, answers);
+    // Stays an index: over `calls.iter().zip(answers.iter_mut())` nothing is known after the loop of what it wrote.
     for k in 0..n {
         let (next, answer) = put(phase, register, tally, records, table, &calls[k]);
         phase = next;

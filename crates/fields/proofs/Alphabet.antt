@@ -1,9 +1,9 @@
 -- The first byte that may not stand in a text. Assumes nothing.
-use Rattle.std.proofs.Common.{◌≡◌, ℕ, zero, suc, ◌+◌, ◌<◌, ◌≤◌, Bool, true, false, cond, ◌&&◌, ◌||◌, eqb, ◌⊎◌, List, [], ◌∷◌, length, get_or, drop, Some, None, Option, sym, refl, ap, ◌∙◌, subst, ap₂, inl, inr, add-one, arith}
-use Rattle.std.proofs.lemmas.List.{at_drop_more, at_drop_all, get_or-drop}
-use Rattle.std.proofs.lemmas.Bool.{eqb-true, eq-eqb, and_parts, and_from, or_cases, or_left, or_right, cond-true, cond-false, both_ways, cases_order}
+use Rattle.std.proofs.Common.{◌≡◌, ℕ, zero, suc, ◌+◌, ◌-◌, ◌<◌, ◌≤◌, Bool, true, false, cond, not, ◌&&◌, ◌||◌, eqb, ltb, ◌⊎◌, List, [], ◌∷◌, length, get_or, drop, Some, None, Option, sym, refl, ap, ◌∙◌, subst, ap₂, inl, inr, arith}
+use Rattle.std.proofs.lemmas.Bool.{eqb-true, eq-eqb, lt-ltb, not-true, not-false, and_parts, and_right, and_from, or_cases, or_left, or_right, both_ways, cases_order}
+use Rattle.std.proofs.Math.Bool.{and_comm}
 use Rattle.fields.specs.Characters.{set_x}
-use Rattle.fields.specs.Faults.{good_byte, alphabet_from, alphabet_fault}
+use Rattle.fields.specs.Faults.{good_byte, bad_at, alphabet_from, alphabet_fault}
 use Rattle.fields.specs.Laws.{TogetherAt, GoodAt, BytesJudged}
 
 -- the byte before place k
@@ -117,24 +117,39 @@ bytes_once text (Some i) (Some j) p q = by (cases_order i j)
     by (inr (inl l)) = absurd (p.2 (q.1 i l))
     by (inr (inr l)) = absurd (q.2 (p.1 j l))
 
--- the turns of a loop over the bytes
-next_is : (text : List ℕ) (before i n : ℕ) → n ≡ get_or text (i + 1) 0
-    → good_byte before (get_or text i 0) (get_or (drop (i + 1) text) 0 0) ≡ good_byte before (get_or text i 0) n
-next_is text before i n e =
-    ap (good_byte before (get_or text i 0)) (get_or-drop (i + 1) text 0 0 ∙ ap (λ (k : ℕ). get_or text k 0) (omega arith) ∙ sym e)
+from_once : (text : List ℕ) (r s : Option ℕ) → From text 0 r → From text 0 s → r ≡ s
+from_once text None None p q = refl
+from_once text None (Some j) p q = absurd (both_ways _ q.3 (p j q.0 q.1))
+from_once text (Some i) None p q = absurd (both_ways _ p.3 (q i p.0 p.1))
+from_once text (Some i) (Some j) p q = by (cases_order i j)
+  where
+    by : (i ≡ j) ⊎ ((i < j) ⊎ (j < i)) → ◌≡◌ {A = Option ℕ} (Some i) (Some j)
+    by (inl e) = ap {B = Option ℕ} Some e
+    by (inr (inl l)) = absurd (both_ways _ p.3 (q.2 i p.0 l))
+    by (inr (inr l)) = absurd (both_ways _ q.3 (p.2 j q.0 l))
 
-pub alphabet_here : (text : List ℕ) (before i n : ℕ) → i < length text → n ≡ get_or text (i + 1) 0 → false ≡ good_byte before (get_or text i 0) n
-    → alphabet_from before i (drop i text) ≡ Some i
-alphabet_here text before i n h q e = at_drop_more (alphabet_from before i) text i 0 h ∙ cond-false _ _ _ (next_is text before i n q ∙ sym e)
+-- the test by a byte's place is the test by the byte before
+bad_is : (text : List ℕ) (k : ℕ) → bad_at text k ≡ not (good_at text k)
+unfolding bad_at
+bad_is text zero = rw (and_right (eqb (get_or text 0 0) 10) false refl) refl
+bad_is text (suc j) =
+    let a : suc j - 1 ≡ j = omega arith in
+    let b : suc j + 1 ≡ suc (suc j) = omega arith in
+    let d : j + 1 ≡ suc j = omega arith in
+    let e : ltb 0 (suc j) ≡ true = lt-ltb 0 (suc j) (omega arith) in
+    rw (a, b, d, e, and_comm (eqb (get_or text (suc j) 0) 10)) refl
 
-pub alphabet_on : (text : List ℕ) (before i n : ℕ) → i < length text → n ≡ get_or text (i + 1) 0 → true ≡ good_byte before (get_or text i 0) n
-    → alphabet_from before i (drop i text) ≡ alphabet_from (get_or text i 0) (i + 1) (drop (i + 1) text)
-alphabet_on text before i n h q e =
-    at_drop_more (alphabet_from before i) text i 0 h ∙ cond-true _ _ _ (next_is text before i n q ∙ sym e)
-    ∙ ap (λ (k : ℕ). alphabet_from (get_or text i 0) k (drop (i + 1) text)) (sym (add-one i))
+not_bad : (text : List ℕ) (k : ℕ) → bad_at text k ≡ false → good_at text k ≡ true
+not_bad text k e = not-false _ (sym (bad_is text k) ∙ e)
 
-pub alphabet_end : (text : List ℕ) (before i : ℕ) → length text ≤ i → alphabet_from before i (drop i text) ≡ None
-alphabet_end text before i h = at_drop_all (alphabet_from before i) text i h
+pub alphabet_some : (text : List ℕ) (i : ℕ) → bad_at text i ≡ true → i < length text → ((k : ℕ) → k < i → bad_at text k ≡ false)
+    → alphabet_fault text ≡ Some i
+alphabet_some text i e h f =
+    from_once text (alphabet_fault text) (Some i) (from text text 0 refl)
+    (omega arith, h, (λ k l m. not_bad text k (f k m)), not-true _ (sym (bad_is text i) ∙ e))
+
+pub alphabet_none : (text : List ℕ) → ((k : ℕ) → k < length text → bad_at text k ≡ false) → alphabet_fault text ≡ None
+alphabet_none text f = from_once text (alphabet_fault text) None (from text text 0 refl) (λ k l m. not_bad text k (f k m))
 
 pub bytes_told : (text : List ℕ) (r : Option ℕ) → alphabet_fault text ≡ r → BytesJudged text r
 bytes_told text r e = subst (λ (r : Option ℕ). BytesJudged text r) e (bytes_judged text)

@@ -1,6 +1,7 @@
 -- What a right header is made of. Assumes nothing.
-use Rattle.std.proofs.Common.{◌≡◌, ℕ, zero, suc, ◌+◌, ◌<◌, ◌≤◌, Bool, true, false, cond, ◌&&◌, eqb, leb, ◌⊎◌, List, [], ◌∷◌, ◌++◌, length, get_or, drop, Some, None, Option, sym, refl, ap, ◌∙◌, subst, ap₂, inl, inr, arith, length-append}
-use Rattle.std.proofs.lemmas.Bool.{eqb-true, ne_eqb, leb-true, and_parts, and_from, or_cases, cond-true, cond-false}
+use Rattle.std.proofs.Common.{◌≡◌, ℕ, zero, suc, ◌+◌, ◌<◌, ◌≤◌, Bool, true, false, cond, ◌&&◌, eqb, leb, ◌⊎◌, List, [], ◌∷◌, ◌++◌, length, get_or, drop, Some, None, Option, sym, refl, ap, ◌∙◌, subst, ap₂, inl, inr, arith}
+use Rattle.std.proofs.lemmas.List.{get_or_past}
+use Rattle.std.proofs.lemmas.Bool.{eqb-true, ne_eqb, leb-true, and_parts, and_right, and_from, or_cases, cond-true, cond-false}
 use Rattle.fields.specs.declared.headers.Tag.{Tag}
 use Rattle.fields.specs.declared.headers.Qualifier.{Qualifier}
 use Rattle.fields.specs.declared.headers.Header.{Header}
@@ -134,14 +135,39 @@ read_qualified l a b c i j k n p q r t e s w x y u =
     ap₂ {C = Option Header} (λ (t : Tag) (v : Qualifier). Some (record { tag = t; qualifier = Some v; len = 6 })) z v
     ∙ sym (cond-true (tagged l) _ _ (sym t) ∙ cond-false (bare (tag_of l)) _ _ (ap bare (sym z) ∙ sym e) ∙ cond-true (qualified l) _ _ (sym s))
 
--- a header is part of its line
-pub header_within : (l : List ℕ) (h : Header) → Some h ≡ header l → h.len ≤ length l
-header_within l h e =
-    let d = headed l h (sym e) in
-    let z = d.size in
-    let y : length l ≡ length ((58 ∷ h.tag.0 ∷ h.tag.1 ∷ h.tag.2 ∷ 58 ∷ second h.qualifier) ++ d.more) = ap length d.whole in
-    let w : length l ≡ (5 + length (second h.qualifier)) + length d.more = y ∙ simp length-append (omega arith) in
-    omega arith
+-- what a test of a line gives
+given : {A : Type 0} (b : Bool) (x y : A) → Some y ≡ cond b (Some x) None → (b ≡ true) × (y ≡ x)
+given {A} true x y e = (refl, cc)
+given {A} false x y e = let f : ◌≡◌ {A = ℕ} 0 1 = cc in absurd (omega arith)
+
+none_given : {A : Type 0} (b : Bool) (x : A) → None ≡ cond b (Some x) None → b ≡ false
+none_given {A} true x e = let f : ◌≡◌ {A = ℕ} 0 1 = cc in absurd (omega arith)
+none_given {A} false x e = refl
+
+-- a line without room for a qualifier and its slash has none
+pub too_short : (l : List ℕ) → length l ≤ 10 → None ≡ cond (qualified l) (Some (qualifier_of l)) None
+too_short l h =
+    let z : byte l 10 ≡ 0 = get_or_past l 10 0 h in
+    let n : eqb (byte l 10) 47 ≡ false = ap (λ (n : ℕ). eqb n 47) z in
+    sym (cond-false (qualified l) _ _
+    (and_right (eqb (byte l 5) 58) _ (and_right (alphanumeric (byte l 6)) _ (and_right (alphanumeric (byte l 7)) _
+    (and_right (alphanumeric (byte l 8)) _ (and_right (alphanumeric (byte l 9)) _ n))))))
+
+-- the header of a line with a tag that asks for a qualifier
+pub no_qualifier : (l : List ℕ) (t : Tag) → Some t ≡ cond (tagged l) (Some (tag_of l)) None → false ≡ bare t
+    → None ≡ cond (qualified l) (Some (qualifier_of l)) None → None ≡ header l
+no_qualifier l t p e q =
+    let a = given (tagged l) (tag_of l) t p in
+    sym (cond-true (tagged l) _ _ a.0 ∙ cond-false (bare (tag_of l)) _ _ (ap bare (sym a.1) ∙ sym e)
+    ∙ cond-false (qualified l) _ _ (none_given (qualified l) (qualifier_of l) q))
+
+pub with_qualifier : (l : List ℕ) (t : Tag) (v : Qualifier) → Some t ≡ cond (tagged l) (Some (tag_of l)) None → false ≡ bare t
+    → Some v ≡ cond (qualified l) (Some (qualifier_of l)) None → Some (record { tag = t; qualifier = Some v; len = 6 }) ≡ header l
+with_qualifier l t v p e q =
+    let a = given (tagged l) (tag_of l) t p in
+    let b = given (qualified l) (qualifier_of l) v q in
+    ap₂ {C = Option Header} (λ (t : Tag) (v : Qualifier). Some (record { tag = t; qualifier = Some v; len = 6 })) a.1 b.1
+    ∙ sym (cond-true (tagged l) _ _ a.0 ∙ cond-false (bare (tag_of l)) _ _ (ap bare (sym a.1) ∙ sym e) ∙ cond-true (qualified l) _ _ b.0)
 
 -- none of these is a CR
 pub is_digit_not_cr : (c : ℕ) → digit c ≡ true → eqb c 13 ≡ false

@@ -4,6 +4,7 @@ pub mod Spelling
 pub mod Singles
 pub mod Places
 pub mod Judging
+pub mod Chains
 pub mod Alphabet
 pub mod Reading
 pub mod Only

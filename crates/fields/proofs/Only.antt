@@ -13,7 +13,15 @@ use Rattle.fields.specs.Fields.{continued, opened, fields_from, second, after, v
 use Rattle.fields.specs.Laws.{colon_line, Keyed, AllRight, Gapless}
 use Rattle.fields.proofs.Cutting.{behind_ahead, lines_break, lines_on_lem, breaks_in, broken}
 use Rattle.fields.proofs.Heads.{is_digit_not_cr, is_capital_not_cr, is_alphanumeric_not_cr, read_bare, read_qualified}
-use Rattle.fields.proofs.Reading.{aheads, aheads_line}
+
+-- bytes in front of the first line
+abbrev aheads : List ℕ → Lines → Lines
+aheads [] x = x
+aheads (c ∷ cs) x = ahead c (aheads cs x)
+
+aheads_line : (p l : List ℕ) (ls : Lines) → aheads p (line l ls) ≡ line (p ++ l) ls
+aheads_line [] l ls = refl
+aheads_line (d ∷ p) l ls = ap (ahead d) (aheads_line p l ls)
 
 -- lines, a CR LF, and more lines
 abbrev attach : Lines → Lines → Lines

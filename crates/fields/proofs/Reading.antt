@@ -1,84 +1,50 @@
 -- The turns of the loops over bytes and lines. Assumes nothing.
-use Rattle.std.proofs.Common.{◌≡◌, ℕ, ◌+◌, ◌-◌, ◌<◌, ◌≤◌, min, Bool, true, false, cond, not, eqb, ◌⊎◌, List, [], ◌∷◌, ◌++◌, length, get_or, take, drop, is_some, Some, None, Option, sym, refl, ap, ◌∙◌, subst, ap₂, inl, inr, append-nil, arith}
-use Rattle.std.proofs.lemmas.List.{at_drop_more, at_drop_all, get_or-drop, get_or_past, take_more, take_all, drop-drop, drop_more, length-take-le, length-drop, take_rest, drop_all}
-use Rattle.std.proofs.lemmas.Bool.{ne_eqb, and_left, and_right, cond-true, cond-false, cases_lt}
+use Rattle.std.proofs.Common.{◌≡◌, ℕ, zero, suc, ◌+◌, ◌-◌, ◌<◌, ◌≤◌, Bool, true, false, cond, not, eqb, find, List, [], ◌∷◌, ◌++◌, length, take, drop, is_some, Some, None, Option, sym, refl, ap, ◌∙◌, subst, ap₂, add-zero, length-append, arith, Bor, IfSome}
+use lib.Seq.{drop-append-add}
+use Rattle.std.specs.Option.{option_map, option_map_or}
+use Rattle.std.proofs.lemmas.List.{at_drop_more, drop_all, drop-drop, length-take-le, length-drop}
+use Rattle.std.proofs.lemmas.Bool.{eqb-true, ne_eqb, and_parts, and_right}
 use Rattle.fields.specs.declared.headers.Header.{Header}
+use Rattle.fields.specs.declared.lines.Line.{Line}
 use Rattle.fields.specs.declared.walk.Field.{Field}
-use Rattle.fields.specs.Characters.{begins}
-use Rattle.fields.specs.Lines.{Lines, rest, line, ahead, breaks, lines, FirstLine, LineAt}
+use Rattle.fields.specs.Lines.{Lines, rest, line, ahead, lines, LineAt, break_at}
+use Rattle.fields.specs.Placed.{Place, placed_line, unended, placed, header_in, ends, heads}
 use Rattle.fields.specs.Headers.{header}
-use Rattle.fields.specs.Fields.{continued, opened, fields_from, left, Next}
-use Rattle.fields.specs.Faults.{empty, good_line, line_from}
-use Rattle.fields.proofs.Cutting.{lines_break, lines_on_lem}
+use Rattle.fields.specs.Fields.{continued, opened, fields_from, left, HeadAt, Next}
+use Rattle.fields.specs.Faults.{good_line, bad_line, line_from}
+use Rattle.fields.proofs.Cutting.{lines_break, lines_on_lem, split, rest_is}
 use Rattle.fields.proofs.Places.{skipped}
 
--- bytes in front of the first line
-abbrev pub aheads : List ℕ → Lines → Lines
-aheads [] x = x
-aheads (c ∷ cs) x = ahead c (aheads cs x)
+-- n bytes and CR LF begin the text, and are its first line
+pub record FirstLine (t : List ℕ) (n : ℕ) : Type 0 where
+  pub within : n + 2 ≤ length t
+  pub cut : lines t ≡ line (take n t) (lines (drop (n + 2) t))
 
-aheads_push : (p : List ℕ) (c : ℕ) (x : Lines) → aheads (p ++ (c ∷ [])) x ≡ aheads p (ahead c x)
-aheads_push [] c x = refl
-aheads_push (d ∷ p) c x = ap (ahead d) (aheads_push p c x)
+break_behind : (c : ℕ) (t : List ℕ) (k : ℕ) → break_at (c ∷ t) (suc k) ≡ break_at t k
+break_behind c t k = let e : suc k + 1 ≡ suc (k + 1) = omega arith in rw e refl
 
-pub aheads_line : (p l : List ℕ) (ls : Lines) → aheads p (line l ls) ≡ line (p ++ l) ls
-aheads_line [] l ls = refl
-aheads_line (d ∷ p) l ls = ap (ahead d) (aheads_line p l ls)
-
-aheads_rest : (p r : List ℕ) → aheads p (rest r) ≡ rest (p ++ r)
-aheads_rest [] r = refl
-aheads_rest (d ∷ p) r = ap (ahead d) (aheads_rest p r)
-
-begins_lf : (l : List ℕ) → begins 10 l ≡ eqb (get_or l 0 0) 10
-begins_lf [] = refl
-begins_lf (c ∷ l) = refl
-
-next_begins : (t : List ℕ) (i : ℕ) → begins 10 (drop (i + 1) t) ≡ eqb (get_or t (i + 1) 0) 10
-next_begins t i = begins_lf (drop (i + 1) t) ∙ ap (λ (c : ℕ). eqb c 10) (get_or-drop (i + 1) t 0 0 ∙ ap (λ (k : ℕ). get_or t k 0) (omega arith))
-
--- no CR LF at i
-pub length_on : (t : List ℕ) (i : ℕ) → i < length t → lines t ≡ aheads (take i t) (lines (drop i t)) → breaks (get_or t i 0) (drop (i + 1) t) ≡ false
-    → lines t ≡ aheads (take (i + 1) t) (lines (drop (i + 1) t))
-length_on t i h e b =
-    e ∙ ap (aheads (take i t)) (at_drop_more lines t i 0 h ∙ lines_on_lem (get_or t i 0) (drop (i + 1) t) b) ∙ sym (aheads_push (take i t) _ _)
-    ∙ ap (λ (p : List ℕ). aheads p (lines (drop (i + 1) t))) (sym (take_more t i 0 h))
-
-pub no_cr : (t : List ℕ) (i : ℕ) → (get_or t i 0 ≡ 13 → ⊥) → breaks (get_or t i 0) (drop (i + 1) t) ≡ false
-no_cr t i n = and_left _ _ (ne_eqb _ _ n)
-
-pub no_lf : (t : List ℕ) (i n : ℕ) → n ≡ get_or t (i + 1) 0 → (n ≡ 10 → ⊥) → breaks (get_or t i 0) (drop (i + 1) t) ≡ false
-no_lf t i n e f = and_right (eqb (get_or t i 0) 13) _ (next_begins t i ∙ ne_eqb _ _ (λ p. f (e ∙ p)))
-
--- a CR LF at i
-pub length_here : (t : List ℕ) (i n : ℕ) → i < length t → lines t ≡ aheads (take i t) (lines (drop i t)) → get_or t i 0 ≡ 13 → n ≡ get_or t (i + 1) 0 → n ≡ 10
-    → FirstLine t i
-length_here t i n h e c q z =
-    record {
-      within = omega (arith, j);
-      cut = e ∙ ap (aheads (take i t)) whole ∙ aheads_line (take i t) [] _ ∙ ap (λ (l : List ℕ). line l (lines (drop (i + 2) t))) (append-nil _);
-    }
+-- the first CR LF ends the first line
+pub line_first : (t : List ℕ) (n : ℕ) → n + 2 ≤ length t → break_at t n ≡ true → ((k : ℕ) → k < n → break_at t k ≡ false) → FirstLine t n
+line_first t n h e f = record { within = h; cut = cut t n h e f }
   where
-    j : i + 1 < length t
-    j = by (cases_lt (i + 1) (length t))
-      where
-        by : (i + 1 < length t) ⊎ (length t ≤ i + 1) → i + 1 < length t
-        by (inl l) = l
-        by (inr l) = let p : get_or t (i + 1) 0 ≡ 0 = get_or_past t (i + 1) 0 l in absurd (omega arith)
+    cut : (t : List ℕ) (n : ℕ) → n + 2 ≤ length t → break_at t n ≡ true → ((k : ℕ) → k < n → break_at t k ≡ false)
+        → lines t ≡ line (take n t) (lines (drop (n + 2) t))
+    cut [] n h e f = absurd (omega arith)
+    cut (c ∷ []) n h e f = absurd (omega arith)
+    cut (c ∷ d ∷ t) zero h e f =
+        let p = and_parts (eqb c 13) (eqb d 10) e in
+        let a : c ≡ 13 = eqb-true c 13 p.0 in
+        let b : d ≡ 10 = eqb-true d 10 p.1 in
+        rw (a, b) (lines_break t)
+    cut (c ∷ d ∷ t) (suc n) h e f =
+        let s : suc n + 2 ≡ suc (n + 2) = omega arith in
+        rw s (lines_on_lem c (d ∷ t) (f 0 (omega arith)) ∙ ap (ahead c) (cut (d ∷ t) n (omega arith) (sym (break_behind c (d ∷ t) n) ∙ e) (λ k l. sym (break_behind c (d ∷ t) k) ∙ f (suc k) (omega arith))))
 
-    text : drop i t ≡ 13 ∷ 10 ∷ drop (i + 2) t
-    text =
-        let a = drop_more t i 0 h in
-        let b = drop_more t (i + 1) 0 j in
-        let d : (i + 1) + 1 ≡ i + 2 = omega arith in
-        let g : drop ((i + 1) + 1) t ≡ drop (i + 2) t = ap (λ (k : ℕ). drop k t) d in
-        cc
-
-    whole : lines (drop i t) ≡ line [] (lines (drop (i + 2) t))
-    whole = ap lines text ∙ lines_break (drop (i + 2) t)
-
-pub length_none : (t : List ℕ) (i : ℕ) → length t ≤ i → lines t ≡ aheads (take i t) (lines (drop i t)) → lines t ≡ rest t
-length_none t i h e =
-    e ∙ ap (aheads (take i t)) (at_drop_all lines t i h) ∙ aheads_rest (take i t) [] ∙ ap rest (append-nil _ ∙ take_all i t h)
+-- where there is none, no line is ended
+pub line_none : (t : List ℕ) → ((k : ℕ) → k + 2 ≤ length t → break_at t k ≡ false) → lines t ≡ rest t
+line_none [] f = refl
+line_none (c ∷ []) f = lines_on_lem c [] (and_right (eqb c 13) false refl)
+line_none (c ∷ d ∷ t) f = lines_on_lem c (d ∷ t) (f 0 (omega arith)) ∙ ap (ahead c) (line_none (d ∷ t) (λ k l. sym (break_behind c (d ∷ t) k) ∙ f (suc k) (omega arith)))
 
 -- a line of the text from its first line from there on
 pub line_there : (text : List ℕ) (start n : ℕ) → start ≤ length text → FirstLine (drop start text) n → LineAt text start (take n (drop start text))
@@ -94,67 +60,125 @@ line_there text start n h f =
           (drop-drop (n + 2) start text ∙ ap (λ (j : ℕ). drop (start + (j + 2)) text) (sym k));
     }
 
--- the part of the text from `start` on, and of that its first n bytes, as a slice of a slice has them
-pub line_part : (text : List ℕ) (start n : ℕ) → start ≤ length text → FirstLine (take (length text - start) (drop start text)) n
-    → LineAt text start (take (n - 0) (take (length text - start) (drop start text)))
-line_part text start n h f =
-    let k : n - 0 ≡ n = omega arith in
-    let f = subst (λ (t : List ℕ). FirstLine t n) (take_rest text start) f in
-    rw (k, take_rest text start) (line_there text start n h f)
+-- the first bad line is the line at fault
+fault_from : (x : Lines) (at : ℕ) → line_from (eqb at 0) at x ≡ option_map (λ (p : Place). p.0) (find bad_line (placed at x))
+fault_from (rest []) at = refl
+fault_from (rest (c ∷ cs)) at = refl
+fault_from (line l ls) at =
+    let next = ne_eqb (at + (length l + 2)) 0 (λ e. omega arith) in
+    by (rw next at (fault_from ls (at + (length l + 2)))) (good_line (eqb at 0) l)
+  where
+    by : line_from false (at + (length l + 2)) ls ≡ option_map (λ (p : Place). p.0) (find bad_line (placed (at + (length l + 2)) ls))
+        → (b : Bool) → cond b (line_from false (at + (length l + 2)) ls) (Some at)
+        ≡ option_map (λ (p : Place). p.0) (cond (not b) (Some (at, Some l)) (find bad_line (placed (at + (length l + 2)) ls)))
+    by e true = e
+    by e false = refl
 
-pub none_past : (text : List ℕ) (start : ℕ) → length text ≤ start → lines (drop start text) ≡ rest (drop start text)
-none_past text start h = rw (drop_all start text h) refl
+pub fault_found : (x : Lines) (l : Option Line) (r : Option ℕ) → option_map placed_line l ≡ find bad_line (placed 0 x)
+    → r ≡ option_map (λ (l : Line). l.start) l → r ≡ line_from true 0 x
+fault_found x None r e m = m ∙ sym (fault_from x 0 ∙ ap (option_map (λ (p : Place). p.0)) (sym e))
+fault_found x (Some l) r e m = m ∙ sym (fault_from x 0 ∙ ap (option_map (λ (p : Place). p.0)) (sym e))
 
--- the turns of the loop over lines that looks for a bad one
-pub fault_on : (text : List ℕ) (s : ℕ) (l : List ℕ) → LineAt text s l → true ≡ good_line (eqb s 0) l
-    → line_from (eqb s 0) s (lines (drop s text))
-    ≡ line_from (eqb (s + (length l + 2)) 0) (s + (length l + 2)) (lines (drop (s + (length l + 2)) text))
-fault_on text s l a g =
-    ap (line_from (eqb s 0) s) a.cut ∙ cond-true (good_line (eqb s 0) l) _ _ (sym g)
-    ∙ ap (λ (b : Bool). line_from b (s + (length l + 2)) (lines (drop (s + (length l + 2)) text))) (sym (ne_eqb (s + (length l + 2)) 0 (λ e. omega arith)))
+ended_length : (t l m : List ℕ) → t ≡ l ++ (13 ∷ 10 ∷ m) → length t ≡ length l + (2 + length m)
+ended_length t l m w = rw (w, length-append) (omega arith)
 
-pub fault_here : (text : List ℕ) (s : ℕ) (l : List ℕ) → LineAt text s l → false ≡ good_line (eqb s 0) l → line_from (eqb s 0) s (lines (drop s text)) ≡ Some s
-fault_here text s l a g = ap (line_from (eqb s 0) s) a.cut ∙ cond-false (good_line (eqb s 0) l) _ _ (sym g)
+-- the lines that continue a field end where the first other line starts, or where the text does
+continued_from : (x : Lines) (t : List ℕ) (at : ℕ) → lines t ≡ x
+    → at + continued x ≡ option_map_or (λ (p : Place). p.0) (find ends (placed at x)) (at + length t)
+continued_from (rest r) t at e = by r (rest_is t r e)
+  where
+    by : (r : List ℕ) → t ≡ r → at + 0 ≡ option_map_or (λ (p : Place). p.0) (find ends (unended at r)) (at + length t)
+    by [] s = rw s refl
+    by (c ∷ cs) s = add-zero at
+continued_from (line l ls) t at e =
+    let s = split t l ls e in
+    let n : length t ≡ length l + (2 + length s.tail) = ended_length t l s.tail s.whole in
+    by s.tail n (is_some (header l)) (continued_from ls s.tail (at + (length l + 2)) s.others)
+  where
+    by : (m : List ℕ) → length t ≡ length l + (2 + length m) → (b : Bool)
+        → (at + (length l + 2)) + continued ls ≡ option_map_or (λ (p : Place). p.0) (find ends (placed (at + (length l + 2)) ls)) ((at + (length l + 2)) + length m)
+        → at + cond b 0 (length l + (2 + continued ls))
+        ≡ option_map_or (λ (p : Place). p.0) (cond b (Some (at, Some l)) (find ends (placed (at + (length l + 2)) ls))) (at + length t)
+    by m n true i = add-zero at
+    by m n false i =
+        let a : at + (length l + (2 + continued ls)) ≡ (at + (length l + 2)) + continued ls = omega arith in
+        let b : at + length t ≡ (at + (length l + 2)) + length m = omega arith in
+        rw (a, b) i
 
-pub fault_rest : (text : List ℕ) (s : ℕ) → s < length text → lines (drop s text) ≡ rest (drop s text) → line_from (eqb s 0) s (lines (drop s text)) ≡ Some s
-fault_rest text s h e = ap (line_from (eqb s 0) s) e ∙ at_drop_more (λ (t : List ℕ). cond (empty t) None (Some s)) text s 0 h
+continued_within : (x : Lines) (t : List ℕ) → lines t ≡ x → continued x ≤ length t
+continued_within (rest r) t e = omega arith
+continued_within (line l ls) t e =
+    let s = split t l ls e in
+    let n : length t ≡ length l + (2 + length s.tail) = ended_length t l s.tail s.whole in
+    by s.tail n (is_some (header l)) (continued_within ls s.tail s.others)
+  where
+    by : (m : List ℕ) → length t ≡ length l + (2 + length m) → (b : Bool) → continued ls ≤ length m
+        → cond b 0 (length l + (2 + continued ls)) ≤ length t
+    by m n true i = omega arith
+    by m n false i = omega arith
 
-pub fault_end : (text : List ℕ) (s : ℕ) → length text ≤ s → line_from (eqb s 0) s (lines (drop s text)) ≡ None
-fault_end text s h = at_drop_all (λ (t : List ℕ). line_from (eqb s 0) s (lines t)) text s h
+pub continued_found : (text : List ℕ) (from : ℕ) (l : Option Line) (r : ℕ) → from ≤ length text
+    → option_map placed_line l ≡ find ends (placed from (lines (drop from text)))
+    → r ≡ option_map_or (λ (l : Line). l.start) l (length text)
+    → (r ≡ from + continued (lines (drop from text))) × (r ≤ length text)
+continued_found text from l r h e m =
+    let d : from + length (drop from text) ≡ length text = rw length-drop (omega arith) in
+    let k = continued_from (lines (drop from text)) (drop from text) from refl in
+    let w = continued_within (lines (drop from text)) (drop from text) refl in
+    let z : r ≡ from + continued (lines (drop from text)) = m ∙ by l ∙ sym (k ∙ rw (← e, d) refl) in
+    (z, omega arith)
+  where
+    by : (l : Option Line) → option_map_or (λ (l : Line). l.start) l (length text) ≡ option_map_or (λ (p : Place). p.0) (option_map placed_line l) (length text)
+    by None = refl
+    by (Some l) = refl
 
--- of the loop over the lines that continue a field
-pub continued_on : (text : List ℕ) (s : ℕ) (l : List ℕ) (o : Option Header) → LineAt text s l → o ≡ header l → false ≡ is_some o
-    → s + continued (lines (drop s text)) ≡ (s + (length l + 2)) + continued (lines (drop (s + (length l + 2)) text))
-continued_on text s l o a e n =
-    let z : continued (lines (drop s text)) ≡ length l + (2 + continued (lines (drop (s + (length l + 2)) text))) =
-    ap continued a.cut ∙ cond-false (is_some (header l)) _ _ (ap is_some (sym e) ∙ sym n) in
-    omega arith
-
-pub continued_here : (text : List ℕ) (s : ℕ) (l : List ℕ) (o : Option Header) → LineAt text s l → o ≡ header l → true ≡ is_some o
-    → s + continued (lines (drop s text)) ≡ s
-continued_here text s l o a e n =
-    let z : continued (lines (drop s text)) ≡ 0 = ap continued a.cut ∙ cond-true (is_some (header l)) _ _ (ap is_some (sym e) ∙ sym n) in
-    omega arith
-
-pub continued_rest : (text : List ℕ) (s : ℕ) → lines (drop s text) ≡ rest (drop s text) → s + continued (lines (drop s text)) ≡ s
-continued_rest text s e = let z : continued (lines (drop s text)) ≡ 0 = ap continued e in omega arith
-
-pub continued_end : (text : List ℕ) (s : ℕ) → length text ≤ s → s + continued (lines (drop s text)) ≡ s
-continued_end text s h = let z : continued (lines (drop s text)) ≡ 0 = at_drop_all (λ (t : List ℕ). continued (lines t)) text s h in omega arith
-
--- of the loop that looks for a field
-pub left_on : (text : List ℕ) (s : ℕ) (l : List ℕ) → LineAt text s l → None ≡ header l → left text s ≡ left text (s + (length l + 2))
+left_on : (text : List ℕ) (s : ℕ) (l : List ℕ) → LineAt text s l → None ≡ header l → left text s ≡ left text (s + (length l + 2))
 left_on text s l a e =
     ap (fields_from s) a.cut
     ∙ sym (ap (λ (o : Option Header). opened o s (length l + continued (lines (drop (s + (length l + 2)) text))) ++ left text (s + (length l + 2))) e)
 
-pub left_rest : (text : List ℕ) (s : ℕ) → lines (drop s text) ≡ rest (drop s text) → left text s ≡ []
-left_rest text s e = ap (fields_from s) e
+-- the first line with a header, from place `at` on
+line_here : (text : List ℕ) (at : ℕ) (l : List ℕ) (ls : Lines) → lines (drop at text) ≡ line l ls
+    → LineAt text at l × (lines (drop (at + (length l + 2)) text) ≡ ls)
+line_here text at l ls e =
+    let s = split (drop at text) l ls e in
+    by s.tail s.whole s.others (ended_length (drop at text) l s.tail s.whole)
+  where
+    by : (m : List ℕ) → drop at text ≡ l ++ (13 ∷ 10 ∷ m) → lines m ≡ ls → length (drop at text) ≡ length l + (2 + length m)
+        → LineAt text at l × (lines (drop (at + (length l + 2)) text) ≡ ls)
+    by m w o n =
+        let d = length-drop at text in
+        let z : length l + 2 ≡ length l + suc (suc 0) = refl in
+        let t : drop (at + (length l + 2)) text ≡ m = sym (drop-drop (length l + 2) at text) ∙ rw (w, drop-append-add) refl in
+        let p : lines (drop (at + (length l + 2)) text) ≡ ls = ap lines t ∙ o in
+        (record { within = omega arith; cut = e ∙ ap (line l) (sym p) }, p)
 
-pub left_end : (text : List ℕ) (s : ℕ) → length text ≤ s → left text s ≡ []
-left_end text s h = at_drop_all (λ (t : List ℕ). fields_from s (lines t)) text s h
+abbrev Found : List ℕ → ℕ → Option Place → Type 0
+Found text at None = left text at ≡ []
+Found text at (Some (s, None)) = ⊥
+Found text at (Some (s, Some l)) = LineAt text s l × (at ≤ s) × (left text at ≡ left text s)
 
-pub left_field : (text : List ℕ) (s end : ℕ) (l : List ℕ) (h : Header) → LineAt text s l → Some h ≡ header l → h.len ≤ length l
+head_from : (x : Lines) (text : List ℕ) (at : ℕ) → lines (drop at text) ≡ x → Found text at (find heads (placed at x))
+head_from (rest []) text at e = ap (fields_from at) e
+head_from (rest (c ∷ cs)) text at e = ap (fields_from at) e
+head_from (line l ls) text at e =
+    let h = line_here text at l ls e in
+    by h.0 (header l) refl (head_from ls text (at + (length l + 2)) h.1)
+  where
+    moved : (p : Option Place) → left text at ≡ left text (at + (length l + 2)) → Found text (at + (length l + 2)) p → Found text at p
+    moved None q f = q ∙ f
+    moved (Some (s, None)) q f = f
+    moved (Some (s, Some k)) q f = (f.0, omega (arith, f.1), q ∙ f.2)
+
+    by : LineAt text at l → (o : Option Header) → header l ≡ o → Found text (at + (length l + 2)) (find heads (placed (at + (length l + 2)) ls))
+        → Found text at (cond (is_some o) (Some (at, Some l)) (find heads (placed (at + (length l + 2)) ls)))
+    by a None q f = moved (find heads (placed (at + (length l + 2)) ls)) (left_on text at l a (sym q)) f
+    by a (Some h) q f = (a, omega arith, refl)
+
+pub head_found : (text : List ℕ) (at : ℕ) (p : Option Place) → p ≡ find heads (placed at (lines (drop at text))) → Found text at p
+head_found text at p e = subst (Found text at) (sym e) (head_from (lines (drop at text)) text at refl)
+
+left_field : (text : List ℕ) (s end : ℕ) (l : List ℕ) (h : Header) → LineAt text s l → Some h ≡ header l → h.len ≤ length l
     → end ≡ (s + (length l + 2)) + continued (lines (drop (s + (length l + 2)) text)) → end ≤ length text
     → Next text s (record { start = s; tag = h.tag; qualifier = h.qualifier; value = s + h.len; len = (end - 2) - (s + h.len) })
 left_field text s end l h a e b z w = record { found = found; onward = omega arith; within = omega arith }
@@ -179,28 +203,32 @@ left_field text s end l h a e b z w = record { found = found; onward = omega ari
         ∙ sym (ap (λ (o : Option Header). opened o s (length l + continued (lines (drop (s + (length l + 2)) text))) ++ left text (s + (length l + 2))) e)
         ∙ ap₂ {C = List Field} (λ (j : ℕ) (fs : List Field). record { start = s; tag = h.tag; qualifier = h.qualifier; value = s + h.len; len = j } ∷ fs) len rest_of
 
--- a line that begins with neither '-' nor a colon
-pub good_other : (first : Bool) (l : List ℕ) → false ≡ eqb (length l) 0 → (get_or l 0 0 ≡ 45 → ⊥) → (get_or l 0 0 ≡ 58 → ⊥) → not first ≡ good_line first l
-good_other first [] h d c = let f : ◌≡◌ {A = ℕ} 0 1 = cc in absurd (omega arith)
-good_other first (x ∷ l) h d c = rw (ne_eqb x 45 d, ne_eqb x 58 c) refl
+pub head_at : (text : List ℕ) (at : ℕ) (l : Line) (b : Bor (List ℕ)) (h : Header) {o : Option Header} → Some (placed_line l) ≡ find heads (placed at (lines (drop at text)))
+    → l.bytes ≡ Some b → o ≡ header_in (placed_line l) → o ≡ Some h → IfSome o (λ h. IfSome l.bytes (λ b. h.len ≤ length b.now))
+    → HeadAt text at l.start b.now h
+head_at text at l b h e p q r w =
+    let f = rw p at (head_found text at (Some (placed_line l)) e) in
+    let g = rw (r, p) at w in
+    let k : Some h ≡ header b.now = sym r ∙ q ∙ ap (λ (o : Option (Bor (List ℕ))). header_in (l.start, option_map (λ x. x.now) o)) p in
+    record { there = f.0; read = k; value = g; onward = f.1; same = f.2 }
 
--- a part that ends where the text does, if not before
-drop_min : (xs : List ℕ) (v : ℕ) → drop (min v (length xs)) xs ≡ drop v xs
-drop_min xs v = by (cases_lt v (length xs))
-  where
-    by : (v < length xs) ⊎ (length xs ≤ v) → drop (min v (length xs)) xs ≡ drop v xs
-    by (inl h) = let e : min v (length xs) ≡ v = omega arith in rw e refl
-    by (inr h) = let e : min v (length xs) ≡ length xs = omega arith in rw e (drop_all (length xs) xs (omega arith) ∙ sym (drop_all v xs h))
+-- the field that it begins
+pub head_field : (text : List ℕ) (at s end : ℕ) (l : List ℕ) (h : Header) → HeadAt text at s l h
+    → end ≡ (s + (length l + 2)) + continued (lines (drop (s + (length l + 2)) text)) → end ≤ length text
+    → Next text at (record { start = s; tag = h.tag; qualifier = h.qualifier; value = s + h.len; len = (end - 2) - (s + h.len) })
+head_field text at s end l h a z w =
+    let n = left_field text s end l h a.there a.read a.value z w in
+    let i = a.onward in
+    let o = n.onward in
+    record { found = a.same ∙ n.found; onward = omega arith; within = n.within }
 
-take_min : (xs : List ℕ) (n : ℕ) → take (min n (length xs)) xs ≡ take n xs
-take_min xs n = by (cases_lt n (length xs))
-  where
-    by : (n < length xs) ⊎ (length xs ≤ n) → take (min n (length xs)) xs ≡ take n xs
-    by (inl h) = let e : min n (length xs) ≡ n = omega arith in rw e refl
-    by (inr h) = let e : min n (length xs) ≡ length xs = omega arith in rw e (take_all (length xs) xs (omega arith) ∙ sym (take_all n xs h))
+-- the lines that are left, and their places
+pub placed_on : (text : List ℕ) (at : ℕ) (l : List ℕ) → LineAt text at l
+    → placed at (lines (drop at text)) ≡ (at, Some l) ∷ placed (at + (length l + 2)) (lines (drop (at + (length l + 2)) text))
+placed_on text at l a = ap (placed at) a.cut
 
-pub value_part : (text : List ℕ) (v n a b : ℕ) → a ≡ min v (length text) → b ≡ min n (length (take (length text - a) (drop a text)))
-    → take (b - 0) (take (length text - a) (drop a text)) ≡ take n (drop v text)
-value_part text v n a b p q =
-    let k : b - 0 ≡ b = omega arith in
-    rw (k, q) (take_min _ n ∙ ap (take n) (take_rest text a ∙ ap (λ (j : ℕ). drop j text) p ∙ drop_min text v))
+pub placed_rest : (text : List ℕ) (at : ℕ) → at < length text → lines (drop at text) ≡ rest (drop at text)
+    → placed at (lines (drop at text)) ≡ (at, None) ∷ placed (length text) (lines (drop (length text) text))
+placed_rest text at h e =
+    ap (placed at) e ∙ at_drop_more (unended at) text at 0 h
+    ∙ ap (λ (t : List ℕ). (at, None) ∷ placed (length text) (lines t)) (sym (drop_all (length text) text (omega arith)))

@@ -1,10 +1,11 @@
 -- The questions about length, characters and lines, and the first that a text fails. Assumes nothing.
-use Rattle.std.specs.Prelude.{ℕ, suc, ◌+◌, Bool, true, false, cond, not, ◌&&◌, ◌||◌, List, [], ◌∷◌, length, is_some, Some, None, Ok, Err, Option, Result, ◌==◌, nat_le, slice_index}
+use Rattle.std.specs.Prelude.{ℕ, suc, ◌+◌, ◌-◌, Bool, true, false, cond, not, ◌&&◌, ◌||◌, List, [], ◌∷◌, length, is_some, Some, None, Ok, Err, Option, Result, ◌==◌, nat_le, nat_lt, slice_index}
 use Rattle.fields.specs.declared.faults.TextFault.{TextFault}
 use Rattle.fields.specs.declared.faults.TextFault.TheVariants.{Length, Character, Line}
 use Rattle.fields.specs.Characters.{set_x, begins}
-use Rattle.fields.specs.Lines.{Lines, rest, line, lines}
+use Rattle.fields.specs.Lines.{Lines, rest, line, lines, break_at}
 use Rattle.fields.specs.Headers.{header}
+use Rattle.fields.specs.Placed.{Place}
 
 -- 1 to 10,000 bytes
 abbrev pub good_length : List ℕ → Bool
@@ -13,6 +14,10 @@ good_length text = nat_le 1 (length text) && nat_le (length text) 10000
 -- a byte of set x, or a CR and LF directly together: `before` and `next` are the bytes before c and behind it, 0 where there is none
 abbrev pub good_byte : ℕ → ℕ → ℕ → Bool
 good_byte before c next = set_x c || ((c == 13 && next == 10) || (c == 10 && before == 13))
+
+-- the same, told by a byte's place: is it no such byte?
+unfoldable pub bad_at : List ℕ → ℕ → Bool
+bad_at text k = not (set_x (slice_index text k) || (break_at text k || (nat_lt 0 k && break_at text (k - 1))))
 
 -- the place of the first other byte of what stands at `at` behind the byte `before`
 abbrev pub alphabet_from : ℕ → ℕ → List ℕ → Option ℕ
@@ -29,6 +34,14 @@ empty (c ∷ cs) = false
 -- not empty, not begun by '-', its header right if it begins with a colon, and the first begins with one
 abbrev pub good_line : Bool → List ℕ → Bool
 good_line first l = not (empty l) && (not (begins 45 l) && cond (begins 58 l) (is_some (header l)) (not first))
+
+-- is it a bad line? No CR LF ends it, or it is not good.
+abbrev pub bad : ℕ → Option (List ℕ) → Bool
+bad at None = true
+bad at (Some l) = not (good_line (at == 0) l)
+
+abbrev pub bad_line : Place → Bool
+bad_line p = bad p.0 p.1
 
 -- where the first bad line of what stands at `at` starts
 abbrev pub line_from : Bool → ℕ → Lines → Option ℕ

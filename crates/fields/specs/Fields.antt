@@ -3,7 +3,7 @@ use Rattle.std.specs.Prelude.{◌≡◌, ℕ, ◌+◌, ◌-◌, ◌<◌, ◌≤�
 use Rattle.fields.specs.declared.headers.Qualifier.{Qualifier}
 use Rattle.fields.specs.declared.headers.Header.{Header}
 use Rattle.fields.specs.declared.walk.Field.{Field}
-use Rattle.fields.specs.Lines.{Lines, rest, line, lines}
+use Rattle.fields.specs.Lines.{Lines, rest, line, lines, LineAt}
 use Rattle.fields.specs.Headers.{header}
 
 -- how many bytes of these lines, up to the first with a header, go on with the field before them
@@ -32,6 +32,14 @@ left text at = fields_from at (lines (drop at text))
 -- where the next field would start
 abbrev pub after : Field → ℕ
 after f = f.value + (f.len + 2)
+
+-- l is the first line from `at` on that begins a field; it starts at s, and h is its header
+pub record HeadAt (text : List ℕ) (at s : ℕ) (l : List ℕ) (h : Header) : Type 0 where
+  pub there : LineAt text s l
+  pub read : Some h ≡ header l
+  pub value : h.len ≤ length l
+  pub onward : at ≤ s
+  pub same : left text at ≡ left text s
 
 -- f is the first field from `at` on, and ends within the text
 pub record Next (text : List ℕ) (at : ℕ) (f : Field) : Type 0 where

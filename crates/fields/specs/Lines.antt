@@ -1,5 +1,5 @@
 -- The lines of a text. Assumes nothing.
-use Rattle.std.specs.Prelude.{◌≡◌, ℕ, ◌+◌, ◌≤◌, Bool, cond, ◌&&◌, List, [], ◌∷◌, length, take, drop, ◌==◌}
+use Rattle.std.specs.Prelude.{◌≡◌, ℕ, ◌+◌, ◌≤◌, Bool, cond, ◌&&◌, List, [], ◌∷◌, length, drop, ◌==◌, slice_index}
 use Rattle.fields.specs.Characters.{begins}
 
 -- A text in lines: lines that CR LF ends, one behind the other, and then what no CR LF ends.
@@ -29,10 +29,9 @@ abbrev pub lines : List ℕ → Lines
 lines [] = rest []
 lines (c ∷ cs) = cond (breaks c cs) (line [] (behind (lines cs))) (ahead c (lines cs))
 
--- n bytes and CR LF begin the text, and are its first line
-pub record FirstLine (t : List ℕ) (n : ℕ) : Type 0 where
-  pub within : n + 2 ≤ length t
-  pub cut : lines t ≡ line (take n t) (lines (drop (n + 2) t))
+-- do CR and LF stand at place k?
+abbrev pub break_at : List ℕ → ℕ → Bool
+break_at t k = slice_index t k == 13 && slice_index t (k + 1) == 10
 
 -- l and CR LF stand at `start`, and are the first line there
 pub record LineAt (text : List ℕ) (start : ℕ) (l : List ℕ) : Type 0 where

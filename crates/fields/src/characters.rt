@@ -6,20 +6,14 @@ ghost use Rattle.fields.specs.Characters.{digit, capital, alphanumeric, set_x};
 pub fn is_digit(c: u8) -> bool
     ensures { result ≡ digit c }
 {
-    match c {
-        b'0'..=b'9' => true,
-        _ => false,
-    }
+    c.is_ascii_digit()
 }
 
 // A to Z
 pub fn is_capital(c: u8) -> bool
     ensures { result ≡ capital c }
 {
-    match c {
-        b'A'..=b'Z' => true,
-        _ => false,
-    }
+    c.is_ascii_uppercase()
 }
 
 // A to Z and 0 to 9: the characters of a qualifier.
@@ -33,9 +27,5 @@ pub fn is_alphanumeric(c: u8) -> bool
 pub fn in_set_x(c: u8) -> bool
     ensures { result ≡ set_x c }
 {
-    match c {
-        b'a'..=b'z' | b'A'..=b'Z' | b'0'..=b'9' => true,
-        b' ' | b'/' | b'-' | b'?' | b':' | b'(' | b')' | b'.' | b',' | b'\'' | b'+' => true,
-        _ => false,
-    }
+    c.is_ascii_alphanumeric() || b" /-?:().,'+".contains(&c)
 }

@@ -1,11 +1,14 @@
 // Whether a text is one that may be cut into fields: its length, its characters, its lines.
-ghost use Rattle.std.specs.Prelude.{◌≡◌};
-ghost use Rattle.fields.specs.Faults.{good_length, good_byte, alphabet_fault, good_line, line_fault, text_verdict, question_of, place_of};
+ghost use Rattle.std.specs.Prelude.{◌≡◌, ℕ, ◌<◌, ◌≤◌, true, false, length, cond, IfSome, IfNone, find};
+ghost use Rattle.std.specs.Option.{option_map};
+ghost use Rattle.fields.specs.Lines.{lines};
+ghost use Rattle.fields.specs.Placed.{placed, placed_line};
+ghost use Rattle.fields.specs.Faults.{good_length, bad_at, alphabet_fault, bad_line, line_fault, fault_at, text_verdict, question_of, place_of};
 ghost use Rattle.fields.specs.Laws.{Checked};
 
 use crate::characters::in_set_x;
 use crate::headers::read_header;
-use crate::lines::{byte_at, line_at};
+use crate::lines::{Line, Lines, is_break};
 
 // The most bytes that a text may have.
 pub const LONGEST: usize = 10_000;
@@ -23,6 +26,7 @@ pub enum TextFault {
 
 impl TextFault {
     // The number of the question that the text fails.
+    // Stays a number: the rules name each question by it, and it is what a caller is told.
     pub fn question(self) -> u8
         ensures { result ≡ question_of self }
     {
@@ -46,79 +50,86 @@ impl TextFault {
 }
 
 // Has the text from 1 to 10,000 bytes?
-fn is_good_length(text: &[u8]) -> bool
-    ensures { result ≡ good_length text.now }
+fn check_length(text: &[u8]) -> Result<(), TextFault>
+    ensures { result ≡ cond (good_length text.now) (Ok tt) (Err TextFault.Length) }
 {
-    1 <= text.len() && text.len() <= LONGEST
-}
-
-// May `c` stand behind `before` and before `next`?
-fn is_good(before: u8, c: u8, next: u8) -> bool
-    ensures { result ≡ good_byte before c next }
-{
-    in_set_x(c) || c == b'\r' && next == b'\n' || c == b'\n' && before == b'\r'
-}
-
-// Where the first byte stands that is neither of set x nor part of a CR and LF directly together.
-fn alphabet_fault(text: &[u8]) -> Option<usize>
-    ensures { result ≡ alphabet_fault text.now }
-{
-    let mut before = 0;
-    for (i, c) in text.iter().enumerate() {
-        if !is_good(before, *c, byte_at(text, i + 1)) {
-            return Some(i);
-        }
-        before = *c;
-    }
-    None
-}
-
-// Is the line as it should be? The first has to begin a field.
-fn is_good_line(line: &[u8], first: bool) -> bool
-    ensures { result ≡ good_line first line.now }
-{
-    if line.is_empty() {
-        return false;
-    }
-    match line[0] {
-        b'-' => false,
-        b':' => read_header(line).is_some(),
-        _ => !first,
+    if (1..=LONGEST).contains(&text.len()) {
+        Ok(())
+    } else {
+        Err(TextFault::Length)
     }
 }
 
-// Where the first bad line starts. A line is bad that no CR LF ends, that is empty or begins with '-', whose header is wrong though it
-// begins with a colon, or that is the first and begins no field.
+// Is the byte at `i` neither of set x nor half of a CR and LF directly together?
+#[tactic(auto, unfolding(crate::specs::Faults::bad_at))]
+fn is_bad_at(text: &[u8], i: usize) -> bool
+    requires { i < length text.now }
+    ensures { result ≡ bad_at text.now i }
+{
+    !(in_set_x(text[i]) || is_break(&text[i..]) || i > 0 && is_break(&text[i - 1..]))
+}
+
+// Where the first such byte stands.
+fn first_bad_byte(text: &[u8]) -> Option<usize>
+    ensures found { IfSome result (λ i. bad_at text.now i ≡ true) }
+    ensures inside { IfSome result (λ i. i < length text.now) }
+    ensures first { (k : ℕ) → IfSome result (λ i. k < i → bad_at text.now k ≡ false) }
+    ensures none { IfNone result ((k : ℕ) → k < length text.now → bad_at text.now k ≡ false) }
+{
+    (0..text.len()).position(|i| is_bad_at(text, i))
+}
+
+// Is every byte one that may stand in a text?
+fn check_characters(text: &[u8]) -> Result<(), TextFault>
+    ensures { result ≡ fault_at TextFault.Character (alphabet_fault text.now) (Ok tt) }
+{
+    match first_bad_byte(text) {
+        Some(at) => Err(TextFault::Character(at)),
+        None => Ok(()),
+    }
+}
+
+// Is the line not as it should be? It is bad if no CR LF ends it, if it is empty or begins with '-', if its header is wrong though it
+// begins with a colon, or if it is the first and begins no field.
+fn is_bad_line(line: Line<'_>) -> bool
+    ensures { result ≡ bad_line (placed_line line.entry) }
+{
+    let Some(bytes) = line.bytes else {
+        return true;
+    };
+    match bytes.first() {
+        None | Some(b'-') => true,
+        Some(b':') => read_header(bytes).is_none(),
+        Some(_) => line.start == 0,
+    }
+}
+
+// Where the first bad line starts.
 fn line_fault(text: &[u8]) -> Option<usize>
     ensures { result ≡ line_fault text.now }
 {
-    let mut start = 0;
-    while start < text.len() {
-        let Some(line) = line_at(text, start) else {
-            return Some(start);
-        };
-        if !is_good_line(line, start == 0) {
-            return Some(start);
-        }
-        start += line.len() + 2;
+    Lines::from_place(text, 0)
+        .find(|line| is_bad_line(*line))
+        .map(|line| line.start)
+}
+
+// Is every line good?
+fn check_lines(text: &[u8]) -> Result<(), TextFault>
+    ensures { result ≡ fault_at TextFault.Line (line_fault text.now) (Ok tt) }
+{
+    match line_fault(text) {
+        Some(start) => Err(TextFault::Line(start)),
+        None => Ok(()),
     }
-    None
 }
 
 // The first of the questions about length, characters and lines that the text fails. Each takes one pass.
 fn first_fault(text: &[u8]) -> Result<(), TextFault>
     ensures { result ≡ text_verdict text.now }
 {
-    if !is_good_length(text) {
-        return Err(TextFault::Length);
-    }
-    if let Some(at) = alphabet_fault(text) {
-        return Err(TextFault::Character(at));
-    }
-    if let Some(start) = line_fault(text) {
-        return Err(TextFault::Line(start));
-    }
-    Ok(())
+    check_length(text)?;
+    check_characters(text)?;
+    check_lines(text)
 }
 
 // May the text be cut into fields? If not, answers the first question that it fails, and where. If so, its fields are the text.

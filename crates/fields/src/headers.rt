@@ -1,9 +1,8 @@
 // The header of a field: a colon, the tag, a colon, and for most tags another colon and the qualifier with its slash.
-ghost use Rattle.std.specs.Prelude.{◌≡◌, ◌≤◌, length, IfSome};
-ghost use Rattle.fields.specs.Headers.{tagged, bare, qualified, header as header_of};
+ghost use Rattle.std.specs.Prelude.{◌≡◌, ◌≤◌, length, IfSome, if◌then◌else◌};
+ghost use Rattle.fields.specs.Headers.{tagged, tag_of, bare, qualified, qualifier_of, header as header_of};
 
 use crate::characters::{is_alphanumeric, is_capital, is_digit};
-use crate::lines::byte_at;
 
 // The name of a kind of field: two digits and a capital letter.
 #[derive(Clone, Copy, PartialEq, Eq, Debug)]
@@ -35,27 +34,30 @@ impl Tag {
     }
 }
 
-// Does the line begin with a colon, a tag and a colon?
-fn has_tag(line: &[u8]) -> bool
-    ensures { result ≡ tagged line.now }
+// The tag of a line that begins with a colon, a tag and a colon.
+fn leading_tag(line: &[u8]) -> Option<Tag>
+    ensures { result ≡ if tagged line.now then Some (tag_of line.now) else None }
 {
-    byte_at(line, 0) == b':'
-        && is_digit(byte_at(line, 1))
-        && is_digit(byte_at(line, 2))
-        && is_capital(byte_at(line, 3))
-        && byte_at(line, 4) == b':'
+    match line {
+        [b':', a, b, c, b':', ..] if is_digit(*a) && is_digit(*b) && is_capital(*c) => {
+            Some(Tag(*a, *b, *c))
+        }
+        _ => None,
+    }
 }
 
-// Do another colon, a qualifier and a slash follow?
-fn has_qualifier(line: &[u8]) -> bool
-    ensures { result ≡ qualified line.now }
+// The qualifier, where another colon, a qualifier and a slash follow.
+fn leading_qualifier(line: &[u8]) -> Option<Qualifier>
+    ensures { result ≡ if qualified line.now then Some (qualifier_of line.now) else None }
 {
-    byte_at(line, 5) == b':'
-        && is_alphanumeric(byte_at(line, 6))
-        && is_alphanumeric(byte_at(line, 7))
-        && is_alphanumeric(byte_at(line, 8))
-        && is_alphanumeric(byte_at(line, 9))
-        && byte_at(line, 10) == b'/'
+    match line {
+        [_, _, _, _, _, b':', a, b, c, d, b'/', ..]
+            if is_alphanumeric(*a)
+                && is_alphanumeric(*b)
+                && is_alphanumeric(*c)
+                && is_alphanumeric(*d) => { Some(Qualifier(*a, *b, *c, *d)) }
+        _ => None,
+    }
 }
 
 // The header of a line, where the line begins with a right one.
@@ -63,10 +65,7 @@ pub(crate) fn read_header(line: &[u8]) -> Option<Header>
     ensures value { result ≡ header_of line.now }
     ensures within { IfSome result (λ h. h.len ≤ length line.now) }
 {
-    if !has_tag(line) {
-        return None;
-    }
-    let tag = Tag(byte_at(line, 1), byte_at(line, 2), byte_at(line, 3));
+    let tag = leading_tag(line)?;
     if tag.is_bare() {
         return Some(Header {
             tag,
@@ -74,15 +73,7 @@ pub(crate) fn read_header(line: &[u8]) -> Option<Header>
             len: 5,
         });
     }
-    if !has_qualifier(line) {
-        return None;
-    }
-    let qualifier = Qualifier(
-        byte_at(line, 6),
-        byte_at(line, 7),
-        byte_at(line, 8),
-        byte_at(line, 9),
-    );
+    let qualifier = leading_qualifier(line)?;
     Some(Header {
         tag,
         qualifier: Some(qualifier),

@@ -1,12 +1,12 @@
 // The fields of a text, one after the other. A line with a header begins a field, any other line continues the one before it.
 ghost use Rattle.std.specs.Prelude.{◌≡◌, ℕ, ◌+◌, ◌≤◌, [], ◌∷◌, length, take, drop, MatchOption};
 ghost use Rattle.fields.specs.Lines.{lines};
-ghost use Rattle.fields.specs.Fields.{continued as continuation, left as from, Next, value_in, fields as all_fields};
-ghost use Rattle.fields.specs.Coming.{coming};
-ghost use Rattle.std.specs.Iterator.{at_most};
+ghost use Rattle.fields.specs.Fields.{continued as continuation, left as from, HeadAt, Next, value_in, fields as all_fields};
+ghost use Rattle.fields.specs.Coming.{coming, gives};
+ghost use Rattle.std.specs.Iterator.{item_count};
 
-use crate::headers::{Qualifier, Tag, read_header};
-use crate::lines::line_at;
+use crate::headers::{Header, Qualifier, Tag};
+use crate::lines::Lines;
 
 // A field of a text: where it starts, its tag, its qualifier if it has one, and where its value starts and how long that is.
 #[derive(Clone, Copy)]
@@ -24,53 +24,41 @@ fn continued_to(text: &[u8], from: usize) -> usize
     ensures value { result ≡ from + continuation (lines (drop from text.now)) }
     ensures within { result ≤ length text.now }
 {
-    let mut end = from;
-    while end < text.len() {
-        let Some(line) = line_at(text, end) else {
-            return end;
-        };
-        if read_header(line).is_some() {
-            return end;
-        }
-        end += line.len() + 2;
-    }
-    end
+    Lines::from_place(text, from)
+        .find(|line| line.ends_field())
+        .map_or(text.len(), |line| line.start)
+}
+
+// The first line from `at` on that begins a field: where it starts, what it is, and what its header says.
+fn next_head(text: &[u8], at: usize) -> Option<(usize, &[u8], Header)>
+    ensures { MatchOption result (from text.now at ≡ []) (λ r. HeadAt text.now at r.0 r.1.now r.2) }
+{
+    let line = Lines::from_place(text, at).find(|line| line.header().is_some())?;
+    Some((line.start, line.bytes?, line.header()?))
 }
 
 // The first field from `at` on, where a line starts. From 0 to the end of one field after the other this gives every field.
 fn next_field(text: &[u8], at: usize) -> Option<Field>
     ensures { MatchOption result (from text.now at ≡ []) (λ f. Next text.now at f) }
 {
-    let mut start = at;
-    while start < text.len() {
-        let Some(line) = line_at(text, start) else {
-            return None;
-        };
-        let next = start + (line.len() + 2);
-        if let Some(header) = read_header(line) {
-            let value = start + header.len;
-            let end = continued_to(text, next);
-            return Some(Field {
-                start,
-                tag: header.tag,
-                qualifier: header.qualifier,
-                value,
-                len: end - 2 - value,
-            });
-        }
-        start = next;
-    }
-    None
+    let (start, line, header) = next_head(text, at)?;
+    let value = start + header.len;
+    let end = continued_to(text, start + (line.len() + 2));
+    Some(Field {
+        start,
+        tag: header.tag,
+        qualifier: header.qualifier,
+        value,
+        len: end - 2 - value,
+    })
 }
 
 // The `len` bytes of the text from `start` on; less, where the text is shorter.
-fn part(text: &[u8], start: usize, len: usize) -> &[u8]
+pub fn part(text: &[u8], start: usize, len: usize) -> &[u8]
     ensures { result.now ≡ take len (drop start text.now) }
 {
-    let start = start.min(text.len());
-    let rest = &text[start..];
-    let len = len.min(rest.len());
-    &rest[0..len]
+    let rest = &text[start.min(text.len())..];
+    &rest[..len.min(rest.len())]
 }
 
 // The value of a field of the text; less, where the text is shorter.
@@ -107,9 +95,9 @@ impl<'a> Fields<'a> {
 impl Iterator for Fields<'_> {
     type Item = Field;
 
-    ghost next_gives = { λ s r t. MatchOption r ((coming s ≡ []) × (t ≡ s)) (λ f. coming s ≡ f ∷ coming t) };
+    ghost next_gives = { gives };
 
-    ghost remaining = { λ s. at_most (length (coming s)) };
+    ghost remaining = { item_count coming };
 
     fn next(&mut self) -> Option<Field> {
         let field = next_field(self.text, self.at)?;
@@ -122,9 +110,5 @@ impl Iterator for Fields<'_> {
 pub fn field_count(text: &[u8]) -> usize
     ensures { result ≡ length (all_fields text.now) }
 {
-    let mut count = 0;
-    for _field in Fields::of(text) {
-        count += 1;
-    }
-    count
+    Fields::of(text).count()
 }

@@ -1,7 +1,7 @@
 -- What readings that give back what is spelled, and nothing else, are good for. Assumes nothing.
 use Rattle.std.proofs.Common.{◌≡◌, ℕ, List, IfSome, Some, None, Option, sym, ap, ◌∙◌}
 use Rattle.format.specs.Laws.{Decoded, Once}
-use Rattle.format.proofs.NumberLaws.{never}
+use Rattle.std.proofs.lemmas.Option.{none-some}
 
 pub decoded : {A : Type 0} (In : A → Type 0) (spelled : A → List ℕ) (read : List ℕ → Option A)
     → ((s : List ℕ) → IfSome (read s) (λ a. In a × (s ≡ spelled a))) → ((a : A) → In a → read (spelled a) ≡ Some a)
@@ -9,7 +9,7 @@ pub decoded : {A : Type 0} (In : A → Type 0) (spelled : A → List ℕ) (read 
 decoded {A} In spelled read right complete v r e = by r e (rw e (right v))
   where
     by : (r : Option A) → r ≡ read v → IfSome r (λ a. In a × (v ≡ spelled a)) → Decoded In spelled v r
-    by None e h = λ a i q. never a (e ∙ ap read q ∙ complete a i)
+    by None e h = λ a i q. absurd (none-some a (e ∙ ap read q ∙ complete a i))
     by (Some a) e h = h
 
 pub once : {A : Type 0} (In : A → Type 0) (spelled : A → List ℕ) (read : List ℕ → Option A)

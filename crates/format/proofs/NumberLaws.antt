@@ -4,9 +4,10 @@ use native.Mathlib.Nat.{pow-le-pow_right}
 use Rattle.std.proofs.lemmas.Str.Parse.{IsNumeralModel, numerals_by_fold, digits_value_short}
 use Rattle.std.proofs.lemmas.Fmt.{digits_decimal, digits_value-decimal, decimal-digits_value, decimal_nonempty, first_decimal, length-decimal-le}
 use Rattle.std.proofs.lemmas.Bool.{eq-eqb, eqb-true, and_from, and_parts, le-leb, leb-true, cond-true, cond-false}
+use Rattle.std.proofs.lemmas.Option.{none-some}
 use Rattle.std.specs.Char.{is_ascii_digit}
 use Rattle.std.specs.Str.{all_ascii_digits}
-use Rattle.format.proofs.Steps.{Read}
+use Rattle.format.proofs.Steps.{Read, same_pair}
 use Rattle.format.specs.Texts.{and_then, after_word}
 use Rattle.format.specs.Numbers.{InDigits, number_on, number}
 
@@ -19,12 +20,6 @@ own = numerals_by_fold _ (search rules) read_on (search rules)
 
 abbrev pub NoDigit : List ℕ → Type 0
 NoDigit t = is_ascii_digit (get_or t 0 0) ≡ false
-
-pub never : {A : Type 0} {X : Type 0} (a : A) → ◌≡◌ {A = Option A} None (Some a) → X
-never a e = let z : ◌≡◌ {A = ℕ} 0 1 = cc in absurd (omega arith)
-
-pub same_pair : {A B : Type 0} (a c : A) (b d : B) → ◌≡◌ {A = Option (A × B)} (Some (a, b)) (Some (c, d)) → (a ≡ c) × (b ≡ d)
-same_pair {A} {B} a c b d e = let p : ◌≡◌ {A = A × B} (a, b) (c, d) = cc in (ap (λ (x : A × B). x.0) p, ap (λ (x : A × B). x.1) p)
 
 read_ge : (n : ℕ) (ds : List ℕ) → n ≤ read_on n ds
 read_ge n [] = omega arith
@@ -48,7 +43,7 @@ on_sound k n [] m t e = let p = same_pair n m [] t e in ([], p.1, refl, omega ar
 on_sound zero n (c ∷ s) m t e = by (is_ascii_digit c) e
   where
     by : (b : Bool) → cond {A = Read} b None (Some (n, c ∷ s)) ≡ Some (m, t) → Front zero n (c ∷ s) m t
-    by true q = never (m, t) q
+    by true q = absurd (none-some (m, t) q)
     by false q = let p = same_pair n m (c ∷ s) t q in ([], p.1, refl, omega arith, sym p.0)
 on_sound (suc k) n (c ∷ s) m t e = by (is_ascii_digit c) refl (on_sound k (n * 10 + (c - 48)) s m t) e
   where
@@ -72,11 +67,11 @@ number_complete k n t p z h f e =
         ∙ ap {B = Option (ℕ × List ℕ)} (λ (m : ℕ). Some (m, t)) (ap (λ (m : ℕ). read_on m ds) (sym (zero-add (d - 48))) ∙ v)
 
 pub number_sound : (k : ℕ) (s : List ℕ) (n : ℕ) (t : List ℕ) → 0 < k → k ≤ 15 → number k s ≡ Some (n, t) → (0 < n) × (n < 10 ^ k) × (s ≡ decimal n ++ t)
-number_sound k [] n t p l e = never (n, t) e
+number_sound k [] n t p l e = absurd (none-some (n, t) e)
 number_sound k (c ∷ s) n t p l e = by (leb 49 c && leb c 57) refl e
   where
     by : (b : Bool) → (leb 49 c && leb c 57) ≡ b → cond {A = Read} b (number_on (k - 1) (c - 48) s) None ≡ Some (n, t) → (0 < n) × (n < 10 ^ k) × (c ∷ s ≡ decimal n ++ t)
-    by false q f = never (n, t) f
+    by false q f = absurd (none-some (n, t) f)
     by true q f =
         let r = on_sound (k - 1) (c - 48) s n t f in
         let a = and_parts (leb 49 c) (leb c 57) q in
@@ -97,11 +92,11 @@ word_complete (c ∷ w) t = cond-true _ _ _ (eq-eqb c c refl) ∙ word_complete 
 
 pub word_sound : (w s t : List ℕ) → after_word w s ≡ Some t → s ≡ w ++ t
 word_sound [] s t e = cc
-word_sound (c ∷ w) [] t e = never t e
+word_sound (c ∷ w) [] t e = absurd (none-some t e)
 word_sound (c ∷ w) (x ∷ s) t e = by (eqb x c) refl (word_sound w s t) e
   where
     by : (b : Bool) → eqb x c ≡ b → (after_word w s ≡ Some t → s ≡ w ++ t) → cond b (after_word w s) None ≡ Some t → x ∷ s ≡ c ∷ (w ++ t)
-    by false q rest f = never t f
+    by false q rest f = absurd (none-some t f)
     by true q rest f = let a : x ≡ c = eqb-true x c q in let d = rest f in cc
 
 -- what is right of what is read

@@ -1,13 +1,17 @@
 -- Characters of a class at the front of a text, ISINs and owners. Assumes nothing.
-use Rattle.std.proofs.Common.{◌≡◌, ℕ, zero, suc, ◌-◌, ◌<◌, ◌≤◌, Bool, true, false, cond, ◌&&◌, ◌||◌, leb, List, [], ◌∷◌, ◌++◌, length, IfSome, Some, None, codes, Decides, Option, sym, refl, ap, ◌∙◌, subst, append-nil, arith}
-use Rattle.std.proofs.lemmas.Bool.{and_from, and_parts, le-leb, leb-true, cond-true, cond-false, both_ways, or_left}
+use Rattle.std.proofs.Common.{◌≡◌, ℕ, zero, suc, ◌+◌, ◌≤◌, Bool, true, false, cond, ◌&&◌, ◌||◌, leb, List, [], ◌∷◌, ◌++◌, length, IfSome, Some, None, codes, Decides, Option, sym, refl, ap, ◌∙◌, subst, append-nil, arith}
+use Rattle.std.proofs.lemmas.Bool.{and_from, and_parts, le-leb, leb-true, cond-true, cond-false, both_ways}
+use Rattle.std.proofs.lemmas.Option.{none-some}
+use Rattle.std.specs.Bool.{then_some}
 use Rattle.std.specs.List.{AllByRecursion}
+use Rattle.std.specs.Option.{option_map}
 use Rattle.fields.specs.Characters.{alphanumeric, set_x}
 use Rattle.format.specs.Texts.{or_false, after_word, is_end}
-use Rattle.format.specs.Runs.{Of, front, back, after_some, is_of}
+use Rattle.format.specs.Runs.{Of, first_of, front, back, after_some, is_of}
 use Rattle.format.specs.Folding.{lines}
 use Rattle.format.specs.Simple.{is_isin, Isin, lines_on, is_lines, Lines}
 use Rattle.format.proofs.NumberLaws.{word_right}
+use Rattle.format.proofs.Steps.{Read, first_some}
 
 -- the text does not begin with a character of the class
 abbrev pub Stops : (ℕ → Bool) → List ℕ → Type 0
@@ -102,15 +106,42 @@ lines_from (suc k) (l ∷ m ∷ ls) a b h =
 pub lines_decides : (k : ℕ) (v : List ℕ) (r : Bool) → r ≡ is_lines k v → Decides r (Lines k v)
 lines_decides k v r e = (λ q. lines_to k v (sym e ∙ q), λ h. e ∙ ap (is_lines k) h.4 ∙ lines_from k h.0 h.1 h.2 h.3)
 
+-- behind n characters of the class, what stands behind them all
+abbrev pub after_more : (ℕ → Bool) → ℕ → ℕ → ℕ → List ℕ → Option (List ℕ)
+after_more k lo hi n s = cond (leb lo (n + length (front k s)) && leb (n + length (front k s)) hi) (Some (back k s)) None
+
+run_is : (lo hi m n : ℕ) (s t : List ℕ) → m ≡ n → s ≡ t
+    → ◌≡◌ {A = Option (List ℕ)} (cond (leb lo m && leb m hi) (Some s) None) (cond (leb lo n && leb n hi) (Some t) None)
+run_is lo hi m n s t e f = cc
+
+pub run_more : (k : ℕ → Bool) (lo hi n c : ℕ) (s t : List ℕ) → Some (c, t) ≡ first_of k s → after_more k lo hi n s ≡ after_more k lo hi (n + 1) t
+run_more k lo hi n c s t e =
+    let f = first_some k s c t e in
+    let a : front k s ≡ c ∷ front k t = ap (front k) f.0 ∙ cond-true _ _ _ f.1 in
+    let b : back k s ≡ back k t = ap (back k) f.0 ∙ cond-true _ _ _ f.1 in
+    run_is lo hi _ _ _ _ (omega (arith, ap length a)) b
+
+none_first : (k : ℕ → Bool) (s : List ℕ) → None ≡ first_of k s → (front k s ≡ []) × (back k s ≡ s)
+none_first k [] e = (refl, refl)
+none_first k (c ∷ s) e = by (k c) refl e
+  where
+    by : (b : Bool) → k c ≡ b → ◌≡◌ {A = Read} None (cond b (Some (c, s)) None) → (front k (c ∷ s) ≡ []) × (back k (c ∷ s) ≡ c ∷ s)
+    by true q e = absurd (none-some (c, s) e)
+    by false q e = (cond-false _ _ _ q, cond-false _ _ _ q)
+
+pub run_ends : {T : Type 0} (chars : T → List ℕ) (k : ℕ → Bool) (lo hi n : ℕ) (x : T) → None ≡ first_of k (chars x) → n ≤ hi
+    → option_map chars (then_some (leb lo n) x) ≡ after_more k lo hi n (chars x)
+run_ends chars k lo hi n x e h =
+    let f = none_first k (chars x) e in
+    by (leb lo n) (leb n hi) (le-leb n hi h) ∙ run_is lo hi _ _ _ _ (omega (arith, ap length f.0)) (sym f.1)
+  where
+    by : (a b : Bool) → b ≡ true → option_map chars (then_some a x) ≡ cond (a && b) (Some (chars x)) None
+    by true b q = sym (cond-true b (Some (chars x)) None q)
+    by false b q = refl
+
 -- a line of several, for the loop that reads them
-pub line_then : (k : ℕ) (s : List ℕ) (o : Option (List ℕ)) → 0 < k → o ≡ after_some set_x 1 35 s
-    → is_lines k s ≡ or_false o (lines_on (is_lines (k - 1)))
-line_then k s o p e =
-    let z : k ≡ suc (k - 1) = omega arith in
-    ap (λ (n : ℕ). is_lines n s) z ∙ ap (λ o. or_false o (lines_on (is_lines (k - 1)))) (sym e)
-
-pub lines_on_lem : (more : List ℕ → Bool) (t : List ℕ) (o : Option (List ℕ)) → false ≡ is_end t → o ≡ after_word (13 ∷ 10 ∷ []) t → lines_on more t ≡ or_false o more
-lines_on_lem more t o e f = ap (λ (b : Bool). b || or_false (after_word (13 ∷ 10 ∷ []) t) more) (sym e) ∙ ap (λ o. or_false o more) (sym f)
-
-pub lines_end : (more : List ℕ → Bool) (t : List ℕ) → true ≡ is_end t → lines_on more t ≡ true
-lines_end more t e = or_left _ _ (sym e)
+pub lines_next : (k m : ℕ) (s t : List ℕ) (o : Option (List ℕ)) → k ≡ suc m → Some t ≡ after_some set_x 1 35 s → false ≡ is_end t → o ≡ after_word (13 ∷ 10 ∷ []) t
+    → is_lines k s ≡ or_false o (is_lines m)
+lines_next k m s t o z e f h =
+    ap (λ (n : ℕ). is_lines n s) z ∙ ap (λ o. or_false o (lines_on (is_lines m))) (sym e)
+    ∙ ap (λ (b : Bool). b || or_false (after_word (13 ∷ 10 ∷ []) t) (is_lines m)) (sym f) ∙ ap (λ o. or_false o (is_lines m)) (sym h)

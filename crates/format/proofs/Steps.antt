@@ -1,51 +1,46 @@
--- One character more of a word or a number, for the loops that read them. Assumes nothing.
-use Rattle.std.proofs.Common.{◌≡◌, ℕ, zero, suc, ◌+◌, ◌-◌, ◌*◌, ◌^◌, ◌<◌, ◌≤◌, true, false, leb, List, [], ◌∷◌, length, get_or, drop, Some, None, Option, sym, ap, ◌∙◌, ap₂, mul-le-mul_right, mul_assoc, mul-le-mul_left, arith}
+-- One character more of a word, a run or a number, for the loops that read them. Assumes nothing.
+use Rattle.std.proofs.Common.{◌≡◌, ℕ, zero, suc, ◌+◌, ◌-◌, ◌*◌, ◌^◌, ◌<◌, ◌≤◌, Bool, true, false, cond, leb, List, [], ◌∷◌, length, drop, Some, None, Option, sym, refl, ap, ◌∙◌, ap₂, mul-le-mul_right, mul_assoc, mul-le-mul_left, arith}
 use native.Mathlib.Nat.{pow-succ', pow-le-pow_right}
-use Rattle.std.proofs.lemmas.List.{drop_more, drop_all, length-drop}
-use Rattle.std.proofs.lemmas.Bool.{eq-eqb, ne_eqb, and_parts, leb-true, cond-true, cond-false}
+use Rattle.std.proofs.lemmas.Option.{none-some}
+use Rattle.std.proofs.lemmas.List.{drop_more}
+use Rattle.std.proofs.lemmas.Bool.{and_parts, leb-true, cond-true}
 use Rattle.format.specs.Texts.{and_then, after_word}
+use Rattle.format.specs.Runs.{first_of}
 use Rattle.format.specs.Numbers.{number_on, number}
 use Rattle.fields.specs.Characters.{between, digit}
 
 abbrev pub Read : Type 0
 Read = Option (ℕ × List ℕ)
 
-word_at : (w s t : List ℕ) (i : ℕ) → i < length w → s ≡ t → after_word (drop i w) s ≡ after_word (get_or w i 0 ∷ drop (i + 1) w) t
-word_at w s t i h e = ap₂ after_word (drop_more w i 0 h) e
+pub same_pair : {A B : Type 0} (a c : A) (b d : B) → ◌≡◌ {A = Option (A × B)} (Some (a, b)) (Some (c, d)) → (a ≡ c) × (b ≡ d)
+same_pair {A} {B} a c b d e = let p : ◌≡◌ {A = A × B} (a, b) (c, d) = cc in (ap (λ (x : A × B). x.0) p, ap (λ (x : A × B). x.1) p)
 
-pub word_ends : (w s : List ℕ) (i : ℕ) → i < length w → s ≡ [] → None ≡ after_word (drop i w) s
-word_ends w s i h e = sym (word_at w s [] i h e)
-
-pub word_other : (w s t : List ℕ) (i x : ℕ) → i < length w → s ≡ x ∷ t → (x ≡ get_or w i 0 → ⊥) → None ≡ after_word (drop i w) s
-word_other w s t i x h e n = sym (word_at w s (x ∷ t) i h e ∙ cond-false _ _ _ (ne_eqb x (get_or w i 0) n))
-
-pub word_more : (w s t : List ℕ) (i x : ℕ) → i < length w → s ≡ x ∷ t → x ≡ get_or w i 0 → after_word (drop i w) s ≡ after_word (drop (i + 1) w) t
-word_more w s t i x h e n = word_at w s (x ∷ t) i h e ∙ cond-true _ _ _ (eq-eqb x (get_or w i 0) n)
-
-pub word_all : (w s : List ℕ) (i : ℕ) → length w ≤ i → Some s ≡ after_word (drop i w) s
-word_all w s i h = sym (ap (λ (v : List ℕ). after_word v s) (drop_all i w h))
-
-pub number_first : (k c : ℕ) (s t : List ℕ) → s ≡ c ∷ t → true ≡ between 49 57 c → number_on (k - 1) (c - 48) t ≡ number k s
-number_first k c s t e h = sym (ap (number k) e ∙ cond-true _ _ _ (sym h))
-
-pub on_more : (k n c : ℕ) (s t : List ℕ) → 0 < k → s ≡ c ∷ t → true ≡ digit c → number_on k n s ≡ number_on (k - 1) (n * 10 + (c - 48)) t
-on_more k n c s t p e h =
-    let z : k ≡ suc (k - 1) = omega arith in
-    ap₂ (λ (k : ℕ) (s : List ℕ). number_on k n s) z e ∙ cond-true _ _ _ (sym h)
-
-pub on_ends : (k n : ℕ) (s : List ℕ) → s ≡ [] → number_on k n s ≡ Some (n, s)
-on_ends k n s e = ap (number_on k n) e ∙ ap {B = Read} (λ (t : List ℕ). Some (n, t)) (sym e)
-
-pub on_other : (k n c : ℕ) (s t : List ℕ) → s ≡ c ∷ t → false ≡ digit c → number_on k n s ≡ Some (n, s)
-on_other k n c s t e h = ap (number_on k n) e ∙ by k ∙ ap {B = Read} (λ (t : List ℕ). Some (n, t)) (sym e)
+-- a character of the class stands at the front
+pub first_some : (k : ℕ → Bool) (s : List ℕ) (c : ℕ) (t : List ℕ) → Some (c, t) ≡ first_of k s → (s ≡ c ∷ t) × (k c ≡ true)
+first_some k [] c t e = absurd (none-some (c, t) (sym e))
+first_some k (d ∷ s) c t e = by (k d) refl e
   where
-    by : (k : ℕ) → number_on k n (c ∷ t) ≡ Some (n, c ∷ t)
-    by zero = cond-false _ _ _ (sym h)
-    by (suc k) = cond-false _ _ _ (sym h)
+    by : (b : Bool) → k d ≡ b → ◌≡◌ {A = Read} (Some (c, t)) (cond b (Some (d, s)) None) → (d ∷ s ≡ c ∷ t) × (k c ≡ true)
+    by true q e = let p = same_pair c d t s e in (ap₂ (λ (x : ℕ) (l : List ℕ). x ∷ l) (sym p.0) (sym p.1), ap k p.0 ∙ q)
+    by false q e = absurd (none-some (c, t) (sym e))
+
+-- where a word goes on, and the text does not
+pub word_ends : (w s : List ℕ) (i : ℕ) → i < length w → s ≡ [] → None ≡ after_word (drop i w) s
+word_ends w s i h e = sym (ap₂ after_word (drop_more w i 0 h) e)
+
+pub number_first : (k c : ℕ) (s t : List ℕ) → Some (c, t) ≡ first_of (between 49 57) s → number_on (k - 1) (c - 48) t ≡ number k s
+number_first k c s t e = let f = first_some (between 49 57) s c t e in sym (ap (number k) f.0 ∙ cond-true _ _ _ f.1)
+
+pub on_more : (k n c : ℕ) (s t : List ℕ) → 0 < k → Some (c, t) ≡ first_of digit s → number_on k n s ≡ number_on (k - 1) (n * 10 + (c - 48)) t
+on_more k n c s t p e =
+    let f = first_some digit s c t e in
+    let z : k ≡ suc (k - 1) = omega arith in
+    ap₂ (λ (k : ℕ) (s : List ℕ). number_on k n s) z f.0 ∙ cond-true _ _ _ f.1
 
 -- a character in a range
-pub in_range : (lo hi c : ℕ) → true ≡ between lo hi c → (lo ≤ c) × (c ≤ hi)
-in_range lo hi c h = let p = and_parts (leb lo c) (leb c hi) (sym h) in (leb-true lo c p.0, leb-true c hi p.1)
+pub in_range : (lo hi c : ℕ) (s t : List ℕ) → Some (c, t) ≡ first_of (between lo hi) s → (lo ≤ c) × (c ≤ hi)
+in_range lo hi c s t e =
+    let p = and_parts (leb lo c) (leb c hi) (first_some (between lo hi) s c t e).1 in (leb-true lo c p.0, leb-true c hi p.1)
 
 -- a number with k digits to come stays below 10 ^ m
 pub room_more : (m n d k : ℕ) → 0 < k → d < 10 → (n + 1) * 10 ^ k ≤ 10 ^ m → (n * 10 + d + 1) * 10 ^ (k - 1) ≤ 10 ^ m
@@ -76,7 +71,3 @@ room_fits m n k h b = let a : 10 ^ m ≤ 10 ^ 15 = pow-le-pow_right (omega arith
 -- what comes of reading one thing after another
 pub then_some : {A B : Type 0} {o : Option A} {a : A} {r : Option B} (f : A → Option B) → Some a ≡ o → r ≡ f a → r ≡ and_then o f
 then_some f e h = h ∙ ap (λ o. and_then o f) e
-
--- where a character stands, the text has not ended
-pub before_end : (s : List ℕ) (i c : ℕ) (t : List ℕ) → drop i s ≡ c ∷ t → i < length s
-before_end s i c t e = omega (arith, length-drop i s, ap length e)

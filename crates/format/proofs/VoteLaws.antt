@@ -1,5 +1,5 @@
 -- A vote that is read is one that is spelled, and back. Assumes nothing.
-use Rattle.std.proofs.Common.{◌≡◌, ℕ, ◌^◌, ◌<◌, ◌≤◌, Bool, true, false, cond, List, [], ◌∷◌, ◌++◌, get_or, IfSome, Some, None, codes, decimal, Option, sym, refl, ap, ◌∙◌, subst, append-nil, arith}
+use Rattle.std.proofs.Common.{◌≡◌, ℕ, ◌<◌, Bool, true, false, cond, List, [], ◌∷◌, ◌++◌, get_or, IfSome, Some, None, codes, decimal, Option, sym, refl, ap, ◌∙◌, append-nil, arith}
 use Rattle.std.proofs.lemmas.Fmt.{first_decimal}
 use Rattle.std.proofs.lemmas.Bool.{ne_eqb, cond-true, cond-false}
 use Rattle.format.specs.declared.votes.VoteKind.{VoteKind}
@@ -149,16 +149,3 @@ vote_decoded = decoded InVote vote_spelled read_vote vote_right vote_complete
 
 pub vote_once : Once InVote vote_spelled
 vote_once = once InVote vote_spelled read_vote vote_complete
-
--- what is read is in range
-pub vote_in : (v : List ℕ) (w : VoteText) → read_vote v ≡ Some w → InVote w
-vote_in v w e = (vote_decoded v (Some w) (sym e)).0
-
-pub vote_question : (v : List ℕ) (w : VoteText) → read_vote v ≡ Some w → (1 ≤ w.question) × (w.question ≤ 99)
-vote_question v w e = let h = (vote_in v w e).0 in (h.0, omega (arith, h.1))
-
-pub vote_candidate : (v : List ℕ) (w : VoteText) (n : ℕ) → read_vote v ≡ Some w → w.candidate ≡ Some n → (1 ≤ n) × (n ≤ 99)
-vote_candidate v w n e c = let h : InDigits 2 n = subst InCandidate c (vote_in v w e).1 in (h.0, omega (arith, h.1))
-
-pub vote_quantity : (v : List ℕ) (w : VoteText) → read_vote v ≡ Some w → (1 ≤ w.quantity) × (w.quantity < 10 ^ 15)
-vote_quantity v w e = (vote_in v w e).2

@@ -1,5 +1,5 @@
 -- A text folded to lines, and back. Assumes nothing.
-use Rattle.std.specs.Prelude.{◌≡◌, ℕ, zero, suc, ◌+◌, ◌-◌, ◌<◌, ◌≤◌, Bool, true, false, ◌&&◌, List, [], ◌∷◌, ◌++◌, length, ◌==◌, nat_lt, slice_index}
+use Rattle.std.specs.Prelude.{◌≡◌, ℕ, zero, suc, ◌-◌, ◌<◌, ◌≤◌, Bool, true, false, cond, ◌&&◌, List, [], ◌∷◌, ◌++◌, length, ◌==◌, Some, None, Option}
 
 -- a CR LF stands after every w-th character that another follows; the first line has room for k more characters
 abbrev pub folded_from : ℕ → ℕ → List ℕ → List ℕ
@@ -32,9 +32,12 @@ is_folded_from w (suc k) (c ∷ v) = is_folded_from w k v
 abbrev pub is_folded : ℕ → List ℕ → Bool
 is_folded w v = is_folded_from w w v
 
--- does a CR LF stand at this place, and more behind it?
-abbrev pub break_at : List ℕ → ℕ → Bool
-break_at v i = nat_lt i (length v - 2) && (slice_index v i == 13 && slice_index v (i + 1) == 10)
+-- what stands behind a CR LF and is not nothing
+abbrev pub behind_break : List ℕ → Option (List ℕ)
+behind_break [] = None
+behind_break (a ∷ []) = None
+behind_break (a ∷ b ∷ []) = None
+behind_break (a ∷ b ∷ c ∷ v) = cond (a == 13 && b == 10) (Some (c ∷ v)) None
 
 -- lines, with CR LF between them
 abbrev pub lines : List (List ℕ) → List ℕ

@@ -1,5 +1,5 @@
 -- An alternate identifier: how it is spelled, and how it is read. Assumes nothing.
-use Rattle.std.specs.Prelude.{ℕ, Bool, true, false, cond, List, [], ◌∷◌, ◌++◌, drop, Some, None, codes, Option}
+use Rattle.std.specs.Prelude.{ℕ, zero, suc, Bool, true, false, cond, List, [], ◌∷◌, ◌++◌, drop, Some, None, codes, Option}
 use Rattle.fields.specs.Characters.{capital, set_x}
 use Rattle.std.specs.Option.{option_map}
 use Rattle.format.specs.declared.identifiers.IdentifierParts.{IdentifierParts}
@@ -29,60 +29,48 @@ identifier_text m =
 abbrev pub meant : List ℕ → IdentifierParts → Identifier
 meant v p = record { issuer = p.issuer; code = p.code; country = p.country; text = drop p.start v }
 
--- reading it: capital letters
-abbrev pub read_capital : List ℕ → Option (ℕ × List ℕ)
-read_capital [] = None
-read_capital (c ∷ s) = cond (capital c) (Some (c, s)) None
+-- reading it: n capital letters
+abbrev pub one_more : ℕ → Option (List ℕ × List ℕ) → Option (List ℕ × List ℕ)
+one_more c None = None
+one_more c (Some p) = Some (c ∷ p.0, p.1)
 
-abbrev pub two_done : ℕ → ℕ × List ℕ → Option (List ℕ × List ℕ)
-two_done a q = Some (a ∷ q.0 ∷ [], q.1)
-
-abbrev pub two_next : ℕ × List ℕ → Option (List ℕ × List ℕ)
-two_next p = and_then (read_capital p.1) (two_done p.0)
-
-abbrev pub read_two : List ℕ → Option (List ℕ × List ℕ)
-read_two s = and_then (read_capital s) two_next
-
-abbrev pub four_done : ℕ → ℕ → ℕ → ℕ × List ℕ → Option (List ℕ × List ℕ)
-four_done a b c q = Some (a ∷ b ∷ c ∷ q.0 ∷ [], q.1)
-
-abbrev pub four_last : ℕ → ℕ → ℕ × List ℕ → Option (List ℕ × List ℕ)
-four_last a b p = and_then (read_capital p.1) (four_done a b p.0)
-
-abbrev pub four_third : ℕ → ℕ × List ℕ → Option (List ℕ × List ℕ)
-four_third a p = and_then (read_capital p.1) (four_last a p.0)
-
-abbrev pub four_next : ℕ × List ℕ → Option (List ℕ × List ℕ)
-four_next p = and_then (read_capital p.1) (four_third p.0)
-
-abbrev pub read_four : List ℕ → Option (List ℕ × List ℕ)
-read_four s = and_then (read_capital s) four_next
+abbrev pub read_capitals : ℕ → List ℕ → Option (List ℕ × List ℕ)
+read_capitals zero s = Some ([], s)
+read_capitals (suc n) [] = None
+read_capitals (suc n) (c ∷ s) = cond (capital c) (one_more c (read_capitals n s)) None
 
 -- `NSDR` or nothing, and a slash
 abbrev pub read_issuer : List ℕ → Option (Bool × List ℕ)
 read_issuer s = or_else (stands_for true (after_word (codes "NSDR/") s)) (stands_for false (after_word (codes "/") s))
 
--- `ALTE/`, the issuer, the code, the country and the text, with a slash behind each but the last
-abbrev pub identifier_done : Bool → List ℕ → List ℕ → List ℕ → Option Identifier
-identifier_done n c k t = cond (is_of set_x 1 30 t) (Some (record { issuer = n; code = c; country = k; text = t })) None
+-- `ALTE/`, the issuer, the code and the country, with a slash behind each
+abbrev pub front_done : Bool → List ℕ → List ℕ → List ℕ → Option ((Bool × List ℕ × List ℕ) × List ℕ)
+front_done n c k t = Some ((n, c, k), t)
 
-abbrev pub identifier_last : Bool → List ℕ → List ℕ × List ℕ → Option Identifier
-identifier_last n c p = and_then (after_word (codes "/") p.1) (identifier_done n c p.0)
+abbrev pub front_last : Bool → List ℕ → List ℕ × List ℕ → Option ((Bool × List ℕ × List ℕ) × List ℕ)
+front_last n c p = and_then (after_word (codes "/") p.1) (front_done n c p.0)
 
-abbrev pub identifier_country : Bool → List ℕ → List ℕ → Option Identifier
-identifier_country n c t = and_then (read_two t) (identifier_last n c)
+abbrev pub front_country : Bool → List ℕ → List ℕ → Option ((Bool × List ℕ × List ℕ) × List ℕ)
+front_country n c t = and_then (read_capitals 2 t) (front_last n c)
 
-abbrev pub identifier_slash : Bool → List ℕ × List ℕ → Option Identifier
-identifier_slash n p = and_then (after_word (codes "/") p.1) (identifier_country n p.0)
+abbrev pub front_slash : Bool → List ℕ × List ℕ → Option ((Bool × List ℕ × List ℕ) × List ℕ)
+front_slash n p = and_then (after_word (codes "/") p.1) (front_country n p.0)
 
-abbrev pub identifier_code : Bool × List ℕ → Option Identifier
-identifier_code p = and_then (read_four p.1) (identifier_slash p.0)
+abbrev pub front_code : Bool × List ℕ → Option ((Bool × List ℕ × List ℕ) × List ℕ)
+front_code p = and_then (read_capitals 4 p.1) (front_slash p.0)
 
-abbrev pub identifier_issuer : List ℕ → Option Identifier
-identifier_issuer t = and_then (read_issuer t) identifier_code
+abbrev pub front_issuer : List ℕ → Option ((Bool × List ℕ × List ℕ) × List ℕ)
+front_issuer t = and_then (read_issuer t) front_code
+
+abbrev pub read_front : List ℕ → Option ((Bool × List ℕ × List ℕ) × List ℕ)
+read_front s = and_then (after_word (codes "ALTE/") s) front_issuer
+
+-- and the text
+abbrev pub identifier_done : (Bool × List ℕ × List ℕ) × List ℕ → Option Identifier
+identifier_done p = cond (is_of set_x 1 30 p.1) (Some (record { issuer = p.0.0; code = p.0.1; country = p.0.2; text = p.1 })) None
 
 abbrev pub identifier_in : List ℕ → Option Identifier
-identifier_in s = and_then (after_word (codes "ALTE/") s) identifier_issuer
+identifier_in s = and_then (read_front s) identifier_done
 
 -- its parts: the text starts behind 18 characters, or behind 14 where no issuer is named
 abbrev pub parts_of : Identifier → IdentifierParts

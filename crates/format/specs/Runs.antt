@@ -7,6 +7,11 @@ use Rattle.format.specs.Texts.{or_false, is_end}
 abbrev pub Of : (ℕ → Bool) → ℕ → ℕ → List ℕ → Type 0
 Of k lo hi v = AllByRecursion (λ c. k c ≡ true) v × (lo ≤ length v) × (length v ≤ hi)
 
+-- the first character, where it is of the class, and what stands behind it
+abbrev pub first_of : (ℕ → Bool) → List ℕ → Option (ℕ × List ℕ)
+first_of k [] = None
+first_of k (c ∷ s) = cond (k c) (Some (c, s)) None
+
 -- the longest front of characters of the class, and what stands behind it
 abbrev pub front : (ℕ → Bool) → List ℕ → List ℕ
 front k [] = []

@@ -1,20 +1,10 @@
--- Texts that are read from place to place, and words at their front. Assumes nothing.
-use Rattle.std.specs.Prelude.{◌≡◌, ℕ, ◌+◌, ◌^◌, ◌<◌, Bool, true, false, cond, List, [], ◌∷◌, drop, Some, None, Option, ◌==◌}
+-- Texts that are read from their front, and words there. Assumes nothing.
+use Rattle.std.specs.Prelude.{ℕ, Bool, true, false, cond, List, [], ◌∷◌, Some, None, Option, ◌==◌}
 
--- what a text has at an index: nothing behind its end
-abbrev pub At : List ℕ → ℕ → Option ℕ → Type 0
-At s i None = drop i s ≡ []
-At s i (Some c) = (drop i s ≡ c ∷ drop (i + 1) s) × (i + 1 < 2 ^ 64)
-
--- what is read at a place and the place behind it, as what is read of the list and the list behind it
-abbrev pub placed : {A : Type 0} → List ℕ → Option (A × ℕ) → Option (A × List ℕ)
-placed s None = None
-placed s (Some p) = Some (p.0, drop p.1 s)
-
--- a place, as the list from there on
-abbrev pub goes_on : List ℕ → Option ℕ → Option (List ℕ)
-goes_on s None = None
-goes_on s (Some n) = Some (drop n s)
+-- what is read and what is left behind it, the latter as the list of its characters
+abbrev pub left : {A T : Type 0} → (T → List ℕ) → Option (A × T) → Option (A × List ℕ)
+left chars None = None
+left chars (Some p) = Some (p.0, chars p.1)
 
 -- one thing read after another; none, where one of them is not there
 abbrev pub and_then : {A B : Type 0} → Option A → (A → Option B) → Option B

@@ -1,54 +1,71 @@
 // Text that is folded to lines of 35 characters.
-ghost use Rattle.std.specs.Prelude.{◌≡◌, ℕ, ◌+◌, ◌*◌, ◌/◌};
-ghost use Rattle.format.specs.Folding.{break_at, is_folded, unfolded};
+ghost use Rattle.std.specs.Prelude.{◌≡◌, ℕ, true, false, MatchOption};
+ghost use Rattle.std.specs.Option.{option_map};
+ghost use Rattle.format.specs.Folding.{behind_break, is_folded, unfolded_from};
 
-use crate::text::Text;
+use crate::text::{Plain, Text};
 
 // How many characters stand in a line.
 pub const WIDTH: usize = 35;
 
-// How many bytes of CR LFs stand before a character.
-fn breaks_before(i: usize) -> usize
-    ensures { result ≡ 2 * (i / 35) }
-{
-    2 * (i / WIDTH)
+// Bytes that are folded to lines, the first of which has room for so many characters. It means the characters without the CR LFs between
+// the lines.
+#[derive(Clone, Copy)]
+pub struct Folded<'a> {
+    bytes: &'a [u8],
+    room: usize,
 }
 
-// Bytes that are folded to lines. It means the characters without the CR LFs between the lines.
-#[derive(Drop)]
-pub struct Folded<'a>(pub &'a [u8]);
+impl<'a> Folded<'a> {
+    // The value, where it is folded.
+    pub fn new(value: &'a [u8]) -> Option<Self>
+        ensures { MatchOption result (is_folded 35 value.now ≡ false) (λ t. (is_folded 35 value.now ≡ true) × (t.room ≡ 35) × (t.bytes.now ≡ value.now)) }
+    {
+        is_folded(value).then_some(Folded::line(value))
+    }
 
-impl Text for Folded<'_> {
-    ghost chars = { λ t. unfolded 35 t.0.now };
-
-    fn char_at(&self, i: usize) -> Option<u8> {
-        let len = self.0.len();
-        let breaks = breaks_before(i);
-        if i < len && breaks < len - i {
-            Some(self.0[i + breaks])
-        } else {
-            None
-        }
+    // What begins with a line.
+    fn line(bytes: &'a [u8]) -> Self
+        ensures { (result.room ≡ 35) × (result.bytes.now ≡ bytes.now) }
+    {
+        Folded { bytes, room: WIDTH }
     }
 }
 
-// Does a CR LF stand at `at`, and more behind it?
-fn breaks_at(value: &[u8], at: usize) -> bool
-    ensures { result ≡ break_at value.now at }
+impl Text for Folded<'_> {
+    ghost chars = { λ t. unfolded_from 35 t.room t.bytes.now };
+
+    fn split_first(self) -> Option<(u8, Self)> {
+        // where a line is full, the next one begins two bytes on
+        let line = if self.room == 0 {
+            Folded::line(self.bytes.get(2..)?)
+        } else {
+            self
+        };
+        let (c, bytes) = line.bytes.split_first()?;
+        let room = line.room - 1;
+        Some((*c, Folded { bytes, room }))
+    }
+}
+
+// What is left behind a CR LF, where one stands at the front and more behind it.
+fn behind_break<T: Text>(text: T) -> Option<T>
+    ensures { option_map T.chars result ≡ behind_break (T.chars text) }
 {
-    at < value.len().saturating_sub(2) && value[at] == b'\r' && value[at + 1] == b'\n'
+    text.after_word(b"\r\n").filter(|next| !next.is_end())
 }
 
 // Does a CR LF stand behind every line that another follows, and is no line but the last shorter than 35 characters?
-pub fn is_folded(value: &[u8]) -> bool
+fn is_folded(value: &[u8]) -> bool
     ensures { result ≡ is_folded 35 value.now }
 {
-    let mut at = 0;
-    while value.len() - at > WIDTH {
-        if !breaks_at(value, at + WIDTH) {
+    let mut line = value;
+    // Stays a loop: a line is right by what stands behind it, and a chain over pieces of 37 bytes would have to set the last one apart.
+    while line.len() > WIDTH {
+        let Some(next) = behind_break(Plain(&line[WIDTH..])) else {
             return false;
-        }
-        at += WIDTH + 2;
+        };
+        line = next.0;
     }
     true
 }

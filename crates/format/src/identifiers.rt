@@ -1,16 +1,17 @@
 // Alternate identifiers.
-ghost use Rattle.std.specs.Prelude.{◌≡◌, ℕ, drop};
-ghost use Rattle.format.specs.Identifier.{InIdentifier, identifier_in, identifier_text, meant, read_capital, read_four, read_identifier, read_issuer, read_two};
-ghost use Rattle.format.specs.Laws.{Decoded, Once};
-ghost use Rattle.format.specs.Texts.{placed};
+ghost use Rattle.std.specs.Prelude.{◌≡◌, ℕ};
 ghost use Rattle.std.specs.Option.{option_map};
+ghost use Rattle.fields.specs.Characters.{set_x};
+ghost use Rattle.format.specs.Identifier.{InIdentifier, identifier_in, identifier_text, meant, read_capitals, read_front, read_identifier, read_issuer};
+ghost use Rattle.format.specs.Laws.{Decoded, Once};
+ghost use Rattle.format.specs.Runs.{is_of};
+ghost use Rattle.format.specs.Texts.{left};
 
-use crate::runs::{Class, is_of};
-use crate::text::{Plain, Text, after_word};
-use fields::characters::is_capital;
+use crate::runs::Class;
+use crate::text::{Plain, Text, stands_for};
 
 // The parts of an alternate identifier: whether its issuer NSDR is named, the code, the country, and where its text starts in the value.
-#[derive(Clone, Copy, Debug)]
+#[derive(Clone, Copy, PartialEq, Eq, Debug)]
 pub struct IdentifierParts {
     pub issuer: bool,
     pub code: [u8; 4],
@@ -18,79 +19,64 @@ pub struct IdentifierParts {
     pub start: usize,
 }
 
-// The capital letter at `from`, and the place behind it.
-fn capital<T: Text>(text: &T, from: usize) -> Option<(u8, usize)>
-    ensures { placed (T.chars text.now) result ≡ read_capital (drop from (T.chars text.now)) }
+// The next N characters, where they are capital letters, and what is left behind them.
+fn capitals<T: Text, const N: usize>(text: T) -> Option<([u8; N], T)>
+    ensures { left T.chars result ≡ read_capitals N (T.chars text) }
 {
-    let Some(c) = text.char_at(from) else {
-        return None;
-    };
-    if is_capital(c) {
-        Some((c, from + 1))
-    } else {
-        None
+    let mut letters = [0; N];
+    let mut rest = text;
+    for letter in &mut letters {
+        (*letter, rest) = Class::Capital.first(rest)?;
     }
+    Some((letters, rest))
 }
 
-// Two capital letters.
-fn two<T: Text>(text: &T, from: usize) -> Option<([u8; 2], usize)>
-    ensures { placed (T.chars text.now) result ≡ read_two (drop from (T.chars text.now)) }
+// Whether the issuer NSDR is named at the front, before a slash, and what is left behind that.
+fn issuer<T: Text>(text: T) -> Option<(bool, T)>
+    ensures { left T.chars result ≡ read_issuer (T.chars text) }
 {
-    let (a, first) = capital(text, from)?;
-    let (b, second) = capital(text, first)?;
-    Some(([a, b], second))
+    stands_for(text, b"NSDR/", true).or_else(|| stands_for(text, b"/", false))
 }
 
-// Four capital letters.
-fn four<T: Text>(text: &T, from: usize) -> Option<([u8; 4], usize)>
-    ensures { placed (T.chars text.now) result ≡ read_four (drop from (T.chars text.now)) }
+// What stands before an identifier's text: whether the issuer is named, the code and the country; and what is left behind them.
+fn front<T: Text>(text: T) -> Option<((bool, [u8; 4], [u8; 2]), T)>
+    ensures { left T.chars result ≡ read_front (T.chars text) }
 {
-    let (a, first) = capital(text, from)?;
-    let (b, second) = capital(text, first)?;
-    let (c, third) = capital(text, second)?;
-    let (d, fourth) = capital(text, third)?;
-    Some(([a, b, c, d], fourth))
+    let (issuer, rest) = issuer(text.after_word(b"ALTE/")?)?;
+    let (code, rest) = capitals::<T, 4>(rest)?;
+    let (country, rest) = capitals::<T, 2>(rest.after_word(b"/")?)?;
+    let rest = rest.after_word(b"/")?;
+    Some(((issuer, code, country), rest))
 }
 
-// Whether the issuer NSDR is named at `from`, before a slash, and the place behind that.
-fn issuer<T: Text>(text: &T, from: usize) -> Option<(bool, usize)>
-    ensures { placed (T.chars text.now) result ≡ read_issuer (drop from (T.chars text.now)) }
+// May the text be that of an identifier? It is of 1 to 30 characters of set x.
+fn is_text<T: Text>(text: T) -> bool
+    ensures { result ≡ is_of set_x 1 30 (T.chars text) }
 {
-    if let Some(at) = after_word(text, from, b"NSDR/") {
-        return Some((true, at));
-    }
-    let at = after_word(text, from, b"/")?;
-    Some((false, at))
+    Class::SetX.fills(text, 1, 30)
 }
 
-// The parts of a text that is an identifier.
-fn identifier_of<T: Text>(text: &T) -> Option<IdentifierParts>
-    ensures { option_map (meant (T.chars text.now)) result ≡ identifier_in (T.chars text.now) }
+// The parts of a value that is an identifier.
+fn identifier_of(value: &[u8]) -> Option<IdentifierParts>
+    ensures value { result ≡ read_identifier value.now }
+    ensures meaning { option_map (meant value.now) result ≡ identifier_in value.now }
 {
-    let named = after_word(text, 0, b"ALTE/")?;
-    let (issuer, coded) = issuer(text, named)?;
-    let (code, slash) = four(text, coded)?;
-    let located = after_word(text, slash, b"/")?;
-    let (country, end) = two(text, located)?;
-    let start = after_word(text, end, b"/")?;
-    if is_of(text, start, Class::SetX, 1, 30) {
-        Some(IdentifierParts {
-            issuer,
-            code,
-            country,
-            start,
-        })
-    } else {
-        None
-    }
+    let ((issuer, code, country), text) = front(Plain(value))?;
+    is_text(text).then_some(IdentifierParts {
+        issuer,
+        code,
+        country,
+        start: value.len() - text.0.len(),
+    })
 }
 
 // The parts of a value that is an alternate identifier: `ALTE/`, `NSDR` or nothing, a slash, a code of four capital letters, a slash, a
 // country of two, a slash, and 1 to 30 characters of set x.
+#[tactic(auto, using(crate::proofs::IdentifierLaws::identifier_decoded, crate::proofs::IdentifierLaws::identifier_once))]
 pub fn identifier(value: &[u8]) -> Option<IdentifierParts>
     ensures value { result ≡ read_identifier value.now }
     ensures decoded { Decoded InIdentifier identifier_text value.now (option_map (meant value.now) result) }
     ensures once { Once InIdentifier identifier_text }
 {
-    identifier_of(&Plain(value))
+    identifier_of(value)
 }

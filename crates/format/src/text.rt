@@ -1,51 +1,55 @@
-// A text that is read from place to place: its characters, its words, its end.
-ghost use Rattle.std.specs.Prelude.{◌≡◌, ℕ, List, drop};
-ghost use Rattle.format.specs.Texts.{At, after_word, goes_on, is_end};
+// Texts that are read from their front: their characters, their words, their end.
+ghost use Rattle.std.specs.Prelude.{◌≡◌, ℕ, List, [], ◌∷◌, MatchOption};
+ghost use Rattle.std.specs.Option.{option_map};
+ghost use Rattle.format.specs.Texts.{after_word, is_end, left, stands_for};
 
-// A text to be read. It means the list of its characters.
-pub trait Text {
+// What is left of a text. It means the list of its characters.
+pub trait Text: Copy {
     ghost chars: { Self → List ℕ };
 
-    fn char_at(&self, i: usize) -> Option<u8>
-        ensures { At (chars self.now) i result };
+    // The first character, and what is left behind it.
+    fn split_first(self) -> Option<(u8, Self)>
+        ensures { MatchOption result (chars self ≡ []) (λ p. chars self ≡ p.0 ∷ chars p.1) };
+
+    // Is nothing left?
+    fn is_end(self) -> bool
+        ensures { result ≡ is_end (chars self) }
+    {
+        self.split_first().is_none()
+    }
+
+    // What is left behind `word`, where the text begins with it.
+    fn after_word(self, word: &[u8]) -> Option<Self>
+        ensures { option_map chars result ≡ after_word word.now (chars self) }
+    {
+        let mut rest = self;
+        for c in word {
+            let (x, next) = rest.split_first()?;
+            if x != *c {
+                return None;
+            }
+            rest = next;
+        }
+        Some(rest)
+    }
+}
+
+// What `word` stands for, and what is left behind it, where the text begins with it.
+pub fn stands_for<T: Text, A: Drop>(text: T, word: &[u8], meaning: A) -> Option<(A, T)>
+    ensures { left T.chars result ≡ stands_for meaning (after_word word.now (T.chars text)) }
+{
+    text.after_word(word).map(|rest| (meaning, rest))
 }
 
 // The bytes as they stand.
-#[derive(Drop)]
+#[derive(Clone, Copy)]
 pub struct Plain<'a>(pub &'a [u8]);
 
 impl Text for Plain<'_> {
     ghost chars = { λ t. t.0.now };
 
-    fn char_at(&self, i: usize) -> Option<u8> {
-        if i < self.0.len() {
-            Some(self.0[i])
-        } else {
-            None
-        }
+    fn split_first(self) -> Option<(u8, Self)> {
+        let (c, rest) = self.0.split_first()?;
+        Some((*c, Plain(rest)))
     }
-}
-
-// Does the text end at `from`?
-pub fn ends<T: Text>(text: &T, from: usize) -> bool
-    ensures { result ≡ is_end (drop from (T.chars text.now)) }
-{
-    text.char_at(from).is_none()
-}
-
-// The place behind `word`, where it stands at `from`.
-pub fn after_word<T: Text>(text: &T, from: usize, word: &[u8]) -> Option<usize>
-    ensures { goes_on (T.chars text.now) result ≡ after_word word.now (drop from (T.chars text.now)) }
-{
-    let mut at = from;
-    for c in word {
-        let Some(x) = text.char_at(at) else {
-            return None;
-        };
-        if x != *c {
-            return None;
-        }
-        at += 1;
-    }
-    Some(at)
 }

@@ -44,11 +44,7 @@ mod tests {
             (b"ISLB/100./TYPE/ORDN/RSLT/CONY/QVTG/\r\n1", None),
         ];
         for (value, expected) in votes {
-            let found = match vote(value) {
-                Some(text) => Some(text.quantity),
-                None => None,
-            };
-            assert_eq!(rt; found, expected);
+            assert_eq!(rt; vote(value).map(|text| text.quantity), expected);
         }
         let whole = VoteText {
             question: 12,
@@ -131,11 +127,7 @@ mod tests {
             (b"ALTE//CORP/US/1234567890123456789012345678901", None),
         ];
         for (value, expected) in identifiers {
-            let found = match identifier(value) {
-                Some(parts) => Some(parts.start),
-                None => None,
-            };
-            assert_eq!(rt; found, expected);
+            assert_eq!(rt; identifier(value).map(|parts| parts.start), expected);
         }
     }
 }

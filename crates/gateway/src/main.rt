@@ -1,9 +1,20 @@
 // The gateway: carries out the commands of a day file in order, and prints what it did.
 #![tactic(auto)]
 
+mod answer;
+mod before;
 mod command;
 mod day;
+mod gather;
+mod line;
+mod minute;
+mod mistake;
+mod parse;
+mod pile;
+mod refusal;
 mod show;
+mod sitting;
+mod view;
 
 use day::Stopped;
 use std::process::ExitCode;

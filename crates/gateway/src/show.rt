@@ -1,60 +1,8 @@
-// What the program prints of fields and refusals.
+// What is printed of a text.
 use fields::headers::{Qualifier, Tag};
-use fields::walk::{Field, Fields, field_count, value_of};
-use reader::faults::ReadingFault;
+use fields::walk::{Field, Fields, field_count, part, value_of};
 use reader::table::Entry;
 use std::{fmt, io};
-use writer::faults::WritingFault;
-
-// A refused reading: number, place, the word of its origin, and the question in plain words.
-#[derive(Clone, Copy)]
-pub struct Refusal(pub ReadingFault);
-
-impl fmt::Display for Refusal {
-    fn fmt<W: fmt::Write>(&self, f: &mut fmt::Formatter<W>) -> fmt::Result {
-        let number = self.0.number();
-        let place = self.0.place();
-        write!(f, "refused {number} ({place}) reading: ")?;
-        f.write_str(in_words(self.0))
-    }
-}
-
-// What a fault says, in plain words.
-fn in_words(fault: ReadingFault) -> &'static str {
-    match fault {
-        ReadingFault::MessageNumber => "the message number is neither 565 nor 567",
-        ReadingFault::Length => "the text has not from 1 to 10000 bytes",
-        ReadingFault::Character(_) => "the byte there is not of set x and not half of a CR LF",
-        ReadingFault::Line(_) => {
-            "the line there has no CR LF, is empty, begins with '-', has a wrong header, or is the first and begins no field"
-        }
-        ReadingFault::Order(_) =>
-            "no message goes on with the field there, or the text ends there too early",
-        ReadingFault::Value(_) => "the value there has not the format of its row",
-        ReadingFault::Table(_) => "the field table has not an entry for each field",
-    }
-}
-
-// A refused writing.
-#[derive(Clone, Copy)]
-pub struct WritingRefusal(pub WritingFault);
-
-impl fmt::Display for WritingRefusal {
-    fn fmt<W: fmt::Write>(&self, f: &mut fmt::Formatter<W>) -> fmt::Result {
-        let number = self.0.number();
-        let place = self.0.place();
-        write!(f, "refused {number} ({place}) writing: ")?;
-        match self.0 {
-            WritingFault::Output => f.write_str("the output is shorter than the text"),
-            WritingFault::Entry(_) => {
-                f.write_str(
-                    "the entry has no row, or no part with its key inside the bytes, or a field begins in its part",
-                )
-            }
-            _ => f.write_str("the entries do not spell a message"),
-        }
-    }
-}
 
 // What was written, beside the text.
 pub fn print_filed(rt: &impl Print, text: &[u8], out: &[u8], len: usize) -> io::Result<()> {
@@ -67,7 +15,7 @@ pub fn print_filed(rt: &impl Print, text: &[u8], out: &[u8], len: usize) -> io::
 
 // Characters as they stand, a CR as \r and an LF as \n.
 #[derive(Clone, Copy)]
-struct Shown<'a>(&'a [u8]);
+pub struct Shown<'a>(pub &'a [u8]);
 
 impl fmt::Display for Shown<'_> {
     fn fmt<W: fmt::Write>(&self, f: &mut fmt::Formatter<W>) -> fmt::Result {
@@ -84,8 +32,7 @@ impl fmt::Display for Shown<'_> {
 
 // The fields of a text: how many, and then each with its start, tag, qualifier and value.
 pub fn print_fields(rt: &impl Print, text: &[u8]) -> io::Result<()> {
-    let count = field_count(text);
-    println!(rt; "{count} fields")?;
+    println!(rt; "{} fields", field_count(text))?;
     for field in Fields::of(text) {
         print_field(rt, text, field)?;
     }
@@ -93,21 +40,20 @@ pub fn print_fields(rt: &impl Print, text: &[u8]) -> io::Result<()> {
 }
 
 fn print_field(rt: &impl Print, text: &[u8], field: Field) -> io::Result<()> {
-    let start = field.start;
-    let letters = tag_letters(field.tag);
-    let tag = Shown(&letters);
-    let letters = qualifier_letters(field.qualifier);
-    let qualifier = Shown(&letters);
-    let value = Shown(value_of(text, field));
-    println!(rt; "  {start:>5}  {tag}  {qualifier}  {value}")
-}
-
-fn tag_letters(Tag(a, b, c): Tag) -> [u8; 3] {
-    [a, b, c]
+    let Tag(a, b, c) = field.tag;
+    let tag = [a, b, c];
+    let qualifier = letters_of(field.qualifier);
+    println!(rt;
+        "  {:>5}  {}  {}  {}",
+        field.start,
+        Shown(&tag),
+        Shown(&qualifier),
+        Shown(value_of(text, field))
+    )
 }
 
 // The qualifier, or a dash in a field of its width.
-fn qualifier_letters(qualifier: Option<Qualifier>) -> [u8; 4] {
+fn letters_of(qualifier: Option<Qualifier>) -> [u8; 4] {
     match qualifier {
         Some(Qualifier(a, b, c, d)) => [a, b, c, d],
         None => [b'-', b' ', b' ', b' '],
@@ -124,17 +70,9 @@ pub fn print_table(rt: &impl Print, text: &[u8], table: &[Entry], count: usize) 
 }
 
 fn print_entry(rt: &impl Print, text: &[u8], entry: Entry) -> io::Result<()> {
-    let row = entry.row;
-    let start = entry.start;
-    let len = entry.len;
-    let value = Shown(part(text, start, len));
-    println!(rt; "  row {row:>2}  {start:>5}  {len:>3}  {value}")
-}
-
-// The part of a text; less, where the text is shorter.
-fn part(text: &[u8], start: usize, len: usize) -> &[u8] {
-    let start = start.min(text.len());
-    let rest = &text[start..];
-    let len = len.min(rest.len());
-    &rest[0..len]
+    let value = Shown(part(text, entry.start, entry.len));
+    println!(rt;
+        "  row {:>2}  {:>5}  {:>3}  {value}",
+        entry.row, entry.start, entry.len
+    )
 }

@@ -1,3 +1,4 @@
 pub mod Outcomes
 pub mod Takings
 pub mod Heard
+pub mod Examined

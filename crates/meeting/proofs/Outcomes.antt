@@ -18,17 +18,11 @@ use Rattle.agenda.proofs.SumLaws.{all_judged}
 use Rattle.book.specs.declared.faults.BookFault.{BookFault}
 use Rattle.book.specs.declared.faults.BookFault.TheVariants.{Event, Content, Vote, Sum}
 use Rattle.book.specs.Questions.{Question, ask, Outcome}
+use Rattle.book.proofs.Verdict.{clash, differ}
 use Rattle.meeting.specs.Notices.{Notice}
 use Rattle.meeting.specs.Messages.{Purpose, purpose_of, form_with, form, InForm, votes_question, sums_question, about_message, votes_fault, form_fault, instruction_fault, same_process, status_fault, message_fault}
 use Rattle.meeting.specs.Messages.Purpose.{lodges, cancels}
 use Rattle.meeting.specs.Kept.{Kept}
-
--- what one thing cannot be at once
-differ : {b : Bool} → b ≡ true → b ≡ false → ⊥
-differ e n = let z : ◌≡◌ {A = ℕ} 0 1 = cc in omega arith
-
-clash : {A : Type 0} {x : A} {y : Option A} → y ≡ Some x → y ≡ None → ⊥
-clash e n = let z : ◌≡◌ {A = ℕ} 0 1 = cc in omega arith
 
 -- an instruction is in form exactly where its form is found
 abbrev Formed : SaidInstruction → Option (RightsText × Purpose) → Type 0

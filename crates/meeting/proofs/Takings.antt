@@ -1,18 +1,22 @@
 -- The ways out of taking a message.
-use Rattle.std.proofs.Common.{◌≡◌, ℕ, Some, None, Ok, Err, Option, sym, ap, ◌∙◌, subst}
+use Rattle.std.proofs.Common.{◌≡◌, ℕ, List, Some, None, Ok, Err, Option, Result, sym, ap, ◌∙◌, subst}
+use Rattle.register.specs.declared.interface.Register as Register
+use Rattle.tally.specs.declared.interface.Tally as Tally
 use Rattle.message.specs.Said.{Said}
 use Rattle.tally.specs.Scale.{Scale}
 use Rattle.book.specs.declared.faults.BookFault.{BookFault}
-use Rattle.book.specs.Book.{Situation, found}
+use Rattle.book.specs.declared.desk.Desk.{Desk}
+use Rattle.book.specs.Book.{Records, Situation, found}
 use Rattle.book.specs.Orders.{Ordered}
 use Rattle.book.specs.Questions.{Outcome, questions}
 use Rattle.book.specs.Verdicts.{verdict, shared_in}
 use Rattle.book.specs.Storage.{Acted}
+use Rattle.book.specs.Desk.{room_for, shown, situation}
 use Rattle.book.specs.Deeds.{Deed, deed_of}
 use Rattle.meeting.specs.Notices.{Notice}
 use Rattle.meeting.specs.Kept.{Kept}
 use Rattle.meeting.specs.Messages.{about_message, message_fault, order_of}
-use Rattle.meeting.specs.Taking.{about_order, all_questions, or_else, order_fault, take_fault, Leaves, Answers, TakesMessage}
+use Rattle.meeting.specs.Taking.{about_order, all_questions, or_else, order_fault, take_fault, Leaves, Answers, TakesMessage, Taking}
 use Rattle.meeting.proofs.Outcomes.{message_outcome, outcome_on, outcome_stop}
 
 module _ {V : Type 0} (scale : Scale V) (n : Notice) (room : ℕ) (s : Situation V) (m : Said) (kept : Kept m) where
@@ -55,3 +59,9 @@ module _ {V : Type 0} (scale : Scale V) (n : Notice) (room : ℕ) (s : Situation
       answers = subst (λ (x : Option Ordered). Answers x (Ok d)) (sym is) e;
       leaves = subst (λ (x : Option Ordered). Leaves scale s x None t) (sym is) a;
     }
+
+-- what a desk has lent is given back as the desk leaves it
+pub taken_back : {X Y : Type 0} (R : Register.Ghosts X) (T : Tally.Ghosts Y) (n : Notice) (entries number : ℕ) (text : List ℕ) (r : X) (t : Y) (rs : Records) (a : Result Deed BookFault) (d : Desk X Y) (r' : X) (t' : Y) (rs' : Records) → r' ≡ d.register.now → t' ≡ d.tally.now → rs' ≡ d.records.now
+    → R.ordered d.register.now × Taking (T.scale t) n (room_for R r rs) entries (situation R T r t rs) number text a (shown R T d)
+    → R.ordered r' × Taking (T.scale t) n (room_for R r rs) entries (situation R T r t rs) number text a (situation R T r' t' rs')
+taken_back R T n entries number text r t rs a d r' t' rs' e₁ e₂ e₃ h = rw (e₁, e₂, e₃) h

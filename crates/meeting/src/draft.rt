@@ -8,7 +8,8 @@ ghost use Rattle.book.specs.Desk.{Led, situation, told};
 ghost use Rattle.meeting.specs.Notices.{drafted, convened, noticed, is_name, IsinCode};
 ghost use Rattle.meeting.specs.Opening.{Opened};
 
-use crate::meeting::Meeting;
+use crate::meeting::{Meeting, Taking};
+use crate::notice::Notice;
 use agenda::agenda::Agenda;
 use agenda::faults::AgendaFault;
 use agenda::question::Question;
@@ -17,22 +18,22 @@ use format::simple::is_isin_code;
 use message::text::ShortText;
 use register::interface::Register;
 use register::reference::Reference;
+use std::marker::PhantomData;
 use tally::interface::Tally;
 
 // A meeting that is not opened yet.
 #[derive(Drop)]
 pub struct Draft {
-    pub(crate) event: Reference,
-    pub(crate) isin: ShortText,
-    pub(crate) agenda: Agenda,
+    pub(crate) notice: Notice,
 }
 
 // The twelve characters of an ISIN.
 fn isin_code(isin: &[u8]) -> Option<ShortText>
     ensures { IsinCode isin.now result }
 {
+    // Stays a test: what a filter is given would have to be kept first, and read afterwards.
     if is_isin_code(isin) {
-        ShortText::new(isin)
+        ShortText::copied(0, isin).ok()
     } else {
         None
     }
@@ -52,9 +53,7 @@ fn clear_register<R: Register>(register: &mut R)
 fn empty(records: &mut [Record])
     ensures { (n : ℕ) (o : Maybe Instruction) → slice_get (meanings records.new) n ≡ Some o → o ≡ None }
 {
-    for record in records.iter_mut() {
-        *record = Record::Empty;
-    }
+    records.fill(None);
 }
 
 impl Draft {
@@ -62,25 +61,24 @@ impl Draft {
     pub fn new(event: &[u8], isin: &[u8]) -> Result<Draft, AgendaFault>
         ensures { MatchResult result (λ d. (is_name event.now isin.now ≡ true) × (drafted d ≡ noticed event.now isin.now blank)) (λ f. (is_name event.now isin.now ≡ false) × (f ≡ Name)) }
     {
-        let Some(event) = Reference::new(event) else {
-            return Err(AgendaFault::Name);
-        };
-        let Some(isin) = isin_code(isin) else {
-            return Err(AgendaFault::Name);
-        };
+        let event = Reference::new(event).ok_or(AgendaFault::Name)?;
+        let isin = isin_code(isin).ok_or(AgendaFault::Name)?;
+        let agenda = Agenda::new();
         Ok(Draft {
-            event,
-            isin,
-            agenda: Agenda::new(),
+            notice: Notice {
+                event,
+                isin,
+                agenda,
+            },
         })
     }
 
     // Fills in a question: one that an agenda can have, and whose number is new. Refused, it leaves the draft as found.
     pub fn add(&mut self, question: Question) -> Result<(), AgendaFault>
-        ensures answer { result ≡ fill_verdict self.old.agenda.questions question }
-        ensures after { drafted self.new ≡ noticed (drafted self.old).event (drafted self.old).isin (fill_leaves self.old.agenda.questions question result) }
+        ensures answer { result ≡ fill_verdict (drafted self.old).agenda question }
+        ensures after { drafted self.new ≡ noticed (drafted self.old).event (drafted self.old).isin (fill_leaves (drafted self.old).agenda question result) }
     {
-        self.agenda.fill(question)
+        self.notice.agenda.fill(question)
     }
 
     // Opens the meeting: clears the register and the tally and empties all records, whatever they held.
@@ -89,7 +87,7 @@ impl Draft {
         register: &mut R,
         tally: &mut T,
         records: &mut [Record],
-    ) -> Meeting
+    ) -> Meeting<Taking>
         ensures notice { convened result ≡ drafted self }
         ensures led { Led R.Register register.old register.new }
         ensures scale { T.Tally.scale tally.new ≡ T.Tally.scale tally.old }
@@ -99,15 +97,9 @@ impl Draft {
         clear_register(register);
         tally.clear();
         empty(records);
-        let Draft {
-            event,
-            isin,
-            agenda,
-        } = self;
         Meeting {
-            event,
-            isin,
-            agenda,
+            notice: self.notice,
+            state: PhantomData,
         }
     }
 }

@@ -1,20 +1,20 @@
 // Examining a message by itself: is it the meeting's, does it say what its function asks for, are its votes good?
-ghost use Rattle.std.specs.Prelude.{◌≡◌, ◌&&◌, ◌==◌};
+ghost use Rattle.std.specs.Prelude.{◌≡◌, ◌&&◌};
 ghost use Rattle.std.specs.Option.{option_map};
 ghost use Rattle.std.specs.Str.{bytes_eq};
 ghost use Rattle.register.specs.Spelling.{spelling};
 ghost use Rattle.message.specs.Texts.{text_of};
 ghost use Rattle.message.specs.Instructions.{given_votes, rights_of};
 ghost use Rattle.message.specs.Said.{said_by, said_instruction, said_status};
-ghost use Rattle.meeting.specs.Messages.{form as formed, form_with, purposed, purpose_of, same_process};
+ghost use Rattle.meeting.specs.Messages.{form as formed, purposed, purpose_of};
 ghost use Rattle.agenda.specs.Votes.{votes_of};
 ghost use Rattle.agenda.specs.Casting.{cast_votes};
 ghost use Rattle.book.specs.Orders.{ordered};
 ghost use Rattle.message.specs.Said.Said.{instructs, reports};
-ghost use Rattle.meeting.specs.Notices.{convened};
+ghost use Rattle.meeting.specs.Notices.{notice_meant};
 ghost use Rattle.meeting.specs.Examining.{meant_form, purpose_meant, Examines};
 
-use crate::meeting::Meeting;
+use crate::notice::Notice;
 use agenda::casting::cast;
 use agenda::sums::unbalanced;
 use agenda::votes::Votes;
@@ -23,7 +23,7 @@ use book::order::{Claim, Order};
 use book::record::Lodging;
 use message::instruction::{Function, Instruction, Rights};
 use message::message::Message;
-use message::status::{Process, Status};
+use message::status::Status;
 use register::reference::Reference;
 
 // What an instruction is for.
@@ -40,86 +40,38 @@ fn purpose_of(function: Function, previous: Option<Reference>, count: usize) -> 
     ensures { option_map purpose_meant result ≡ purpose_of function (option_map spelling previous) count }
 {
     match (function, previous) {
-        (Function::New, None) => if count > 0 {
-            Some(Purpose::Lodging)
-        } else {
-            None
-        },
-        (Function::New, Some(previous)) => {
-            if count > 0 {
-                Some(Purpose::Replacement(previous))
-            } else {
-                None
-            }
-        }
-        (Function::Cancel, Some(previous)) => {
-            if count == 0 {
-                Some(Purpose::Cancellation(previous))
-            } else {
-                None
-            }
-        }
-        (Function::Cancel, None) => None,
-    }
-}
-
-// The rights identifier and the purpose, where there is one of each and the quantity is the holding.
-fn form_with(
-    whole: bool,
-    rights: Option<Rights>,
-    purpose: Option<Purpose>,
-) -> Option<(Rights, Purpose)>
-    ensures { option_map meant_form result ≡ form_with whole (option_map rights_of rights) (option_map purpose_meant purpose) }
-{
-    match (whole, rights, purpose) {
-        (true, Some(rights), Some(purpose)) => Some((rights, purpose)),
+        (Function::New, None) if count > 0 => Some(Purpose::Lodging),
+        (Function::New, Some(previous)) if count > 0 => Some(Purpose::Replacement(previous)),
+        (Function::Cancel, Some(previous)) if count == 0 => Some(Purpose::Cancellation(previous)),
         _ => None,
     }
-}
-
-// Is the quantity the holding?
-fn is_whole(quantity: u64, holding: u64) -> bool
-    ensures { result ≡ (quantity == holding) }
-{
-    quantity == holding
 }
 
 // The rights identifier of an instruction and its purpose, where it says what that asks for.
 fn form(instruction: &Instruction) -> Option<(Rights, Purpose)>
     ensures { option_map meant_form result ≡ formed (said_instruction instruction.now) }
 {
+    if instruction.quantity != instruction.holding {
+        return None;
+    }
     let purpose = purpose_of(
         instruction.function,
         instruction.previous,
         instruction.votes.count,
     );
-    let whole = is_whole(instruction.quantity, instruction.holding);
-    form_with(whole, instruction.rights, purpose)
-}
-
-fn is_process(one: Process, other: Process) -> bool
-    ensures { result ≡ same_process one other }
-{
-    match (one, other) {
-        (Process::Instruction, Process::Instruction) => true,
-        (Process::Cancellation, Process::Cancellation) => true,
-        _ => false,
-    }
+    instruction.rights.zip(purpose)
 }
 
 // What an instruction orders that says what its purpose asks for.
 fn order_for(instruction: &Instruction, rights: Rights, purpose: Purpose, votes: Votes) -> Order
     ensures { votes_of votes ≡ cast_votes (given_votes instruction.now.votes) → ordered result ≡ purposed (said_instruction instruction.now) (rights_of rights) (purpose_meant purpose) }
 {
-    let account = instruction.account;
-    let option = instruction.option;
-    let holding = instruction.holding;
     let lodging = Lodging {
         reference: instruction.reference,
         rights,
-        account,
-        option,
-        holding,
+        account: instruction.account,
+        option: instruction.option,
+        holding: instruction.holding,
         votes,
     };
     match purpose {
@@ -129,17 +81,17 @@ fn order_for(instruction: &Instruction, rights: Rights, purpose: Purpose, votes:
             Order::Cancel(
                 previous,
                 Claim {
-                    rights,
-                    account,
-                    option,
-                    holding,
+                    rights: lodging.rights,
+                    account: lodging.account,
+                    option: lodging.option,
+                    holding: lodging.holding,
                 },
             )
         }
     }
 }
 
-impl Meeting {
+impl Notice {
     // Is the event the meeting's?
     fn is_event(&self, event: &Reference) -> bool
         ensures { result ≡ bytes_eq (spelling event.now) (spelling self.now.event) }
@@ -151,23 +103,18 @@ impl Meeting {
     fn is_about(&self, instruction: &Instruction) -> bool
         ensures { result ≡ (bytes_eq (spelling instruction.now.event) (spelling self.now.event) && bytes_eq (text_of instruction.now.isin) (text_of self.now.isin)) }
     {
-        self.is_event(&instruction.event) && instruction.isin.is(&self.isin)
+        self.is_event(&instruction.event) && instruction.isin == self.isin
     }
 
     // What an instruction orders; or why it is refused by itself.
     fn examine_instruction(&self, instruction: &Instruction) -> Result<Order, BookFault>
-        ensures { Examines (convened self.now) (instructs (said_instruction instruction.now)) result }
+        ensures { Examines (notice_meant self.now) (instructs (said_instruction instruction.now)) result }
     {
         if !self.is_about(instruction) {
             return Err(BookFault::Event);
         }
-        let Some((rights, purpose)) = form(instruction) else {
-            return Err(BookFault::Content);
-        };
-        let votes = match cast(&self.agenda, &instruction.votes) {
-            Ok(votes) => votes,
-            Err(place) => return Err(BookFault::Vote(place)),
-        };
+        let (rights, purpose) = form(instruction).ok_or(BookFault::Content)?;
+        let votes = cast(&self.agenda, &instruction.votes).map_err(BookFault::Vote)?;
         if let Some(question) = unbalanced(&self.agenda, instruction.holding, &votes) {
             return Err(BookFault::Sum(question));
         }
@@ -176,12 +123,12 @@ impl Meeting {
 
     // What a status orders; or why it is refused by itself.
     fn examine_status(&self, status: &Status) -> Result<Order, BookFault>
-        ensures { Examines (convened self.now) (reports (said_status status.now)) result }
+        ensures { Examines (notice_meant self.now) (reports (said_status status.now)) result }
     {
         if !self.is_event(&status.event) {
             return Err(BookFault::Event);
         }
-        if !is_process(status.process, status.function) || !status.agree {
+        if status.process != status.function || !status.agree {
             return Err(BookFault::Content);
         }
         Ok(Order::Report(status.related, status.function, status.code))
@@ -189,7 +136,7 @@ impl Meeting {
 
     // Examines a message by itself: what it orders, or the first question about it that is answered no.
     pub(crate) fn examine(&self, message: &Message) -> Result<Order, BookFault>
-        ensures { Examines (convened self.now) (said_by message.now) result }
+        ensures { Examines (notice_meant self.now) (said_by message.now) result }
     {
         match message {
             Message::Instructs(instruction) => self.examine_instruction(instruction),

@@ -3,4 +3,5 @@
 pub mod draft;
 mod examining;
 pub mod meeting;
+mod notice;
 mod taking;

@@ -3,6 +3,7 @@ use Rattle.std.proofs.Common.{◌≡◌, ℕ, ◌≤◌, Bool, true, false, ◌&
 use Rattle.std.proofs.lemmas.Slice.Eq.{bytes_eq-Decides}
 use Rattle.std.proofs.lemmas.Bool.{and_parts, and_from, or_cases, cond-true, eqb-true, le-leb}
 use Rattle.std.specs.List.{slice_get, AllByRecursion}
+use Rattle.std.specs.Str.{bytes_eq}
 use Rattle.std.specs.Option.{option_map}
 use Rattle.fields.specs.Characters.{set_x, alphanumeric}
 use Rattle.fields.specs.Fields.{fields}
@@ -10,13 +11,12 @@ use Rattle.fields.specs.declared.headers.Qualifier.{Qualifier}
 use Rattle.format.specs.Simple.{is_reference, is_account, is_option_number, is_isin, is_isin_code}
 use Rattle.format.specs.Texts.{and_then, after_word, or_false}
 use Rattle.format.proofs.RunLaws.{of_decides}
-use Rattle.sheet.specs.declared.rows.FieldRow.{FieldRow}
-use Rattle.sheet.specs.declared.rows.Row.{Row}
-use Rattle.sheet.specs.declared.rows.Row.TheVariants.{Field}
+use Rattle.sheet.specs.Rows.{FieldRow}
+use Rattle.sheet.specs.Rows.{Row}
+use Rattle.sheet.specs.Rows.Row.{Field}
 use Rattle.sheet.specs.Order.{order_fault}
-use Rattle.sheet.specs.Rows.{qualifiers_of, is_qualifier, admits}
-use Rattle.sheets.specs.declared.codes.Code.{Code}
-use Rattle.sheets.specs.Codes.{spells, among}
+use Rattle.sheet.specs.Rows.{is_qualifier, admits}
+use Rattle.sheets.specs.Codes.{among}
 use Rattle.reader.specs.Reading.{Codes}
 use Rattle.reader.specs.Tables.{table_of}
 use Rattle.reader.specs.Values.{headed, content_of, value_fits, value_fault}
@@ -43,10 +43,10 @@ mapped_there f None h = never h
 mapped_there f (Some a) h = refl
 
 -- what holds of each code of a list holds of what is among them
-pub among_each : (P : List ℕ → Type 0) (ks : List Code) → AllByRecursion (λ k. P (k.0 ∷ k.1 ∷ k.2 ∷ k.3 ∷ [])) ks → (c : List ℕ) → among ks c ≡ true → P c
+pub among_each : (P : List ℕ → Type 0) (ks : List (List ℕ)) → AllByRecursion P ks → (c : List ℕ) → among ks c ≡ true → P c
 among_each P [] a c h = never h
-among_each P (k ∷ ks) a c h = elim (or_cases (spells k c) (among ks c) h) [
-  | inl e ↦ subst P ((bytes_eq-Decides _ c).0 e) a.0
+among_each P (k ∷ ks) a c h = elim (or_cases (bytes_eq k c) (among ks c) h) [
+  | inl e ↦ subst P ((bytes_eq-Decides k c).0 e) a.0
   | inr e ↦ among_each P ks a.1 c e
 ]
 
@@ -114,7 +114,7 @@ isin_there v h =
     ap (λ (x : Option (List ℕ)). is_some (and_then x as_text)) b.1 ∙ short_there b.0 (omega arith)
 
 -- of a value of a row with one qualifier, what stands behind that
-pub suits_content : (has : Option Qualifier → List ℕ → Bool) (row : FieldRow) (x : Qualifier) → qualifiers_of row.qualifiers ≡ x ∷ []
+pub suits_content : (has : Option Qualifier → List ℕ → Bool) (row : FieldRow) (x : Qualifier) → row.qualifiers ≡ x ∷ []
     → (test : List ℕ → Bool) → ((v : List ℕ) → value_fits (has (Some x)) (Some x) row.format v ≡ or_false (content_of (Some x) v) test)
     → (v : List ℕ) → Suits has row v → (c : List ℕ) × (content_of (Some x) v ≡ Some c) × (test c ≡ true)
 suits_content has row x one test shape v (q, a, f) =
@@ -135,7 +135,7 @@ module _ (rows : List Row) (codes : Codes) (text : List ℕ) (ordered : order_fa
       (n.0, ap first n.2, (subst (λ (l : List (List ℕ)). AllByRecursion (Suits (codes r) row) l) n.2 (values_suit r row there)).0)
 
   -- of a row without qualifiers, the whole value
-  pub whole_there : (r : ℕ) (row : FieldRow) → slice_get rows r ≡ Some (Field row) → required rows r ≡ true → qualifiers_of row.qualifiers ≡ []
+  pub whole_there : (r : ℕ) (row : FieldRow) → slice_get rows r ≡ Some (Field row) → required rows r ≡ true → row.qualifiers ≡ []
       → (v : List ℕ) × (value_of text (table_of rows text) r ≡ Some v) × (value_fits (codes r None) None row.format v ≡ true)
   whole_there r row there h none =
       let t = value_there r row there h in
@@ -145,7 +145,7 @@ module _ (rows : List Row) (codes : Codes) (text : List ℕ) (ordered : order_fa
 
   -- of a row with one, what stands behind it, read
   pub part_there : {A : Type 0} (k : Keyed) (row : FieldRow) → slice_get rows k.row ≡ Some (Field row) → required rows k.row ≡ true
-      → qualifiers_of row.qualifiers ≡ k.qualifier ∷ [] → (test : List ℕ → Bool)
+      → row.qualifiers ≡ k.qualifier ∷ [] → (test : List ℕ → Bool)
       → ((v : List ℕ) → value_fits (codes k.row (Some k.qualifier)) (Some k.qualifier) row.format v ≡ or_false (content_of (Some k.qualifier) v) test)
       → (read : List ℕ → Option A) → ((c : List ℕ) → test c ≡ true → is_some (read c) ≡ true)
       → is_some (and_then (content_in text (table_of rows text) k) read) ≡ true

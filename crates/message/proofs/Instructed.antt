@@ -7,7 +7,7 @@ use Rattle.format.specs.Simple.{is_reference, is_account, is_option_number}
 use Rattle.format.specs.Texts.{and_then}
 use Rattle.format.specs.Vote.{read_vote}
 use Rattle.sheet.specs.Order.{order_fault}
-use Rattle.sheet.specs.declared.rows.FieldRow.{FieldRow}
+use Rattle.sheet.specs.Rows.{FieldRow}
 use Rattle.sheet.specs.declared.rows.Format.TheVariants.{Reference, Vote}
 use Rattle.sheet.specs.declared.marks.Mark.TheVariants.{Once, AnyNumber}
 use Rattle.sheets.specs.declared.standard.StandardSheet.TheVariants.{Mt565}

@@ -1,32 +1,32 @@
 -- The votes that are kept: the first 64 of all. Assumes nothing.
-use Rattle.std.proofs.Common.{◌≡◌, ℕ, zero, suc, ◌+◌, ◌<◌, ◌≤◌, min, List, [], ◌∷◌, ◌++◌, length, get_or, take, drop, set, Some, None, Option, sym, refl, ap, ◌∙◌, ap₂, arith}
+use Rattle.std.proofs.Common.{◌≡◌, ℕ, zero, suc, ◌+◌, ◌<◌, ◌≤◌, List, [], ◌∷◌, ◌++◌, length, get_or, take, drop, Some, None, Ok, Err, Option, Result, IsOk, OnOk, OnErr, ◌↔◌, ◌⊎◌, sym, refl, ap, ◌∙◌, ap₂, inl, inr, arith}
 use Rattle.std.specs.Option.{option_map}
-use Rattle.std.proofs.lemmas.List.{append_assoc, append-nil, length-append, length-take, length-take-le, take_all, take_at, take_more_set}
+use Rattle.std.proofs.lemmas.List.{append_assoc, append-nil, length-append, take_all, take_at}
+use Rattle.std.proofs.lemmas.Bool.{cases_lt, false≢true}
 use Rattle.format.specs.declared.votes.VoteText.{VoteText}
 use Rattle.format.specs.Texts.{and_then}
 use Rattle.reader.specs.declared.table.Entry.{Entry}
+use Rattle.short.specs.Short.{Short}
 use Rattle.message.specs.declared.instruction.GivenVotes.{GivenVotes}
 use Rattle.message.specs.Instructions.{given_votes}
 use Rattle.message.specs.Values.{value_at, values_of}
 use Rattle.message.specs.Voting.{vote_of, votes_of, counted, kept_and_count}
 use Rattle.message.proofs.Lookup.{values_here, values_on, values_end}
 
--- one vote more, where there is room and where there is none
-pub kept_more : (items : List VoteText) (n : ℕ) (w : VoteText) → length items ≡ 64 → n < 64
-    → take (min (n + 1) 64) (set items n w) ≡ take 64 (take (min n 64) items ++ w ∷ [])
-kept_more items n w long h =
-    let a : min (n + 1) 64 ≡ n + 1 = omega arith in
-    let b : min n 64 ≡ n = omega arith in
-    let within : n < length items = omega arith in
-    let few : length (take n items ++ w ∷ []) ≤ 64 = simp (length-append, length-take) (omega arith) in
-    rw (a, b) (take_more_set items n w within ∙ sym (take_all 64 (take n items ++ w ∷ []) few))
-
-pub kept_full : (items : List VoteText) (n : ℕ) (w : VoteText) → length items ≡ 64 → 64 ≤ n
-    → take (min (n + 1) 64) items ≡ take 64 (take (min n 64) items ++ w ∷ [])
-kept_full items n w long h =
-    let a : min (n + 1) 64 ≡ 64 = omega arith in
-    let b : min n 64 ≡ 64 = omega arith in
-    rw (a, b) (sym (take_at (take 64 items) (w ∷ []) 64 (length-take-le 64 items (omega arith))))
+-- the votes that are kept when one comes behind them, and whether there was room for it
+pub kept_more : {T E : Type 0} (g : GivenVotes) (kept : Short VoteText) (w : VoteText) (r : Result T E) → (IsOk r ↔ (length g.kept.items < 64))
+    → OnOk r (kept.items ≡ g.kept.items ++ w ∷ []) → OnErr r (kept ≡ g.kept) → kept.items ≡ take 64 (g.kept.items ++ w ∷ [])
+kept_more g kept w (Ok x) room ok err =
+    let few : length g.kept.items < 64 = room.0 refl in
+    let fits : length (g.kept.items ++ w ∷ []) ≤ 64 = simp length-append (omega arith) in
+    ok ∙ sym (take_all 64 (g.kept.items ++ w ∷ []) fits)
+kept_more g kept w (Err e) room ok err =
+    let full : length g.kept.items ≡ 64 = by (cases_lt (length g.kept.items) 64) in
+    ap (λ (s : Short VoteText). s.items) err ∙ sym (take_at g.kept.items (w ∷ []) 64 full)
+  where
+    by : (length g.kept.items < 64) ⊎ (64 ≤ length g.kept.items) → length g.kept.items ≡ 64
+    by (inl h) = absurd (false≢true (room.1 h))
+    by (inr h) = omega (arith, g.first)
 
 -- the votes so far, and then more
 abbrev pub onward : GivenVotes → List VoteText → List VoteText × ℕ
@@ -82,7 +82,7 @@ module _ (text : List ℕ) (es : List Entry) (row : ℕ) where
 
   pub votes_end : (g : GivenVotes) (i : ℕ) → length es ≤ i → option_map (onward g) (rest i) ≡ Some (kept_and_count g)
   votes_end g i h =
-      let few : length (given_votes g) ≤ 64 = simp length-take (omega arith) in
+      let few : length (given_votes g) ≤ 64 = omega (arith, g.first) in
       ap (λ (l : List (List ℕ)). option_map (onward g) (votes_of l)) (values_end text es row i h)
       ∙ ap {B = Option (List VoteText × ℕ)} (λ (y : List VoteText × ℕ). Some y)
       (same_pair (ap (take 64) (append-nil (given_votes g)) ∙ take_all 64 (given_votes g) few) (omega arith))

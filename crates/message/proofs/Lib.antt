@@ -1,5 +1,4 @@
 pub mod Never
-pub mod Cutting
 pub mod Lookup
 pub mod Holders
 pub mod Keeping

@@ -1,9 +1,10 @@
 -- A text that is read says something, by the entries that reading finds. Assumes nothing.
-use Rattle.std.proofs.Common.{◌≡◌, ℕ, ◌-◌, true, List, length, take, is_some, Some, None, Ok, Err, Option, Result, sym, refl, ap, ◌∙◌, arith}
+use Rattle.std.proofs.Common.{◌≡◌, ℕ, true, List, length, take, is_some, Some, None, Ok, Err, Option, Result, sym, refl, ap, ◌∙◌}
+use Rattle.std.specs.Option.{option_map}
 use Rattle.fields.specs.declared.faults.TextFault.{TextFault}
 use Rattle.fields.specs.Faults.{text_verdict}
 use Rattle.format.specs.Texts.{and_then}
-use Rattle.sheet.specs.declared.rows.Row.{Row}
+use Rattle.sheet.specs.Rows.{Row}
 use Rattle.sheet.specs.Order.{order_fault}
 use Rattle.sheets.specs.declared.standard.StandardSheet.{StandardSheet}
 use Rattle.sheets.specs.declared.standard.StandardSheet.TheVariants.{Mt565, Mt567}
@@ -16,6 +17,8 @@ use Rattle.reader.specs.Reading.{Codes, fault_at, after_text, room_verdict, read
 use Rattle.reader.specs.Tables.{table_of}
 use Rattle.reader.specs.Values.{value_fault}
 use Rattle.reader.proofs.Tables.{table_only}
+use Rattle.message.specs.declared.message.Message.{Message}
+use Rattle.message.specs.Said.{said_by}
 use Rattle.message.specs.Messages.{said_from, said, verdict_by, verdict, table_by, table_left}
 use Rattle.message.proofs.Decoding.{mapped_there}
 use Rattle.message.proofs.Instructed.{instruction_there}
@@ -43,11 +46,15 @@ said_there Mt565 text room n e =
 said_there Mt567 text room n e =
     let p = passed (rows_of Mt567) (codes_of Mt567) text room n e in mapped_there _ _ (status_there text p.0 p.1)
 
+pub said_something : (o : Option Message) → is_some (option_map said_by o) ≡ true → is_some o ≡ true
+said_something None h = h
+said_something (Some m) h = refl
+
 -- what is known where a text is read: the verdict, the table, and that what the entries found say is what the text says, which is something
 pub record Read (number : ℕ) (text : List ℕ) (table after : List Entry) (n : ℕ) : Type 0 where
   pub value : verdict number text (length table) ≡ Ok n
   pub entries : after ≡ table_left number text table
-  pub same : and_then (sheet_of number) (λ s. said_from s text (take (n - 0) after)) ≡ said number text
+  pub same : and_then (sheet_of number) (λ s. said_from s text (take n after)) ≡ said number text
   pub there : is_some (said number text) ≡ true
 
 pub has_read : (number : ℕ) (text : List ℕ) (table after : List Entry) (n : ℕ) → ReadsNumbered (sheet_of number) text table after (Ok n)
@@ -57,14 +64,13 @@ has_read number text table after n h =
   where
     by : (o : Option StandardSheet) → ReadsNumbered o text table after (Ok n)
         → (verdict_by o text (length table) ≡ Ok n) × (after ≡ table_by o text table)
-        × (and_then o (λ s. said_from s text (take (n - 0) after)) ≡ and_then o (λ s. said_from s text (table_of (rows_of s) text)))
+        × (and_then o (λ s. said_from s text (take n after)) ≡ and_then o (λ s. said_from s text (table_of (rows_of s) text)))
         × (is_some (and_then o (λ s. said_from s text (table_of (rows_of s) text))) ≡ true)
     by None h = err_ok n MessageNumber (sym h.0)
     by (Some s) h =
-        let z : n - 0 ≡ n = omega arith in
         let e : verdict_by (Some s) text (length table) ≡ Ok n = sym h.value in (
           e,
           h.entries ∙ ap (table_after (rows_of s) text table) h.value,
-          ap (said_from s text) (ap (λ (k : ℕ). take k after) z ∙ table_only (rows_of s) (all_lawful s) text (take n after) (h.allowed n refl)),
+          ap (said_from s text) (table_only (rows_of s) (all_lawful s) text (take n after) (h.allowed n refl)),
           said_there s text (length table) n e,
         )

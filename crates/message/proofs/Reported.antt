@@ -1,6 +1,7 @@
 -- A status that is read says something. Assumes nothing.
 use Rattle.std.proofs.Common.{◌≡◌, ℕ, Bool, true, not, ◌&&◌, ◌||◌, List, [], ◌∷◌, ◌++◌, is_some, Some, None, Option, refl, ap, ◌∙◌, subst, inl, inr}
 use Rattle.std.proofs.lemmas.Slice.Eq.{bytes_eq-Decides}
+use Rattle.std.specs.Str.{bytes_eq}
 use Rattle.std.proofs.lemmas.Bool.{and_parts, or_cases, both_ways, not-true}
 use Rattle.fields.specs.declared.headers.Qualifier.{Qualifier}
 use Rattle.format.specs.Simple.{is_reference}
@@ -9,9 +10,8 @@ use Rattle.format.proofs.NumberLaws.{word_sound}
 use Rattle.sheet.specs.Order.{order_fault}
 use Rattle.sheet.specs.Rows.{is_qualifier, admits}
 use Rattle.sheet.specs.declared.rows.Format.TheVariants.{Code}
-use Rattle.sheets.specs.declared.codes.Pair.{Pair}
 use Rattle.sheets.specs.declared.standard.StandardSheet.TheVariants.{Mt567}
-use Rattle.sheets.specs.Codes.{spells, among, pairs, paired, status_functions, status_pairs, reason_pairs}
+use Rattle.sheets.specs.Codes.{among, paired, status_functions, status_pairs, reason_pairs}
 use Rattle.sheets.specs.Standards.{codes_of}
 use Rattle.sheets.specs.Tables.{rows567}
 use Rattle.sheets.specs.Words.{qualifier}
@@ -31,21 +31,20 @@ function_there : (v : List ℕ) → among status_functions v ≡ true → is_som
 function_there = among_each (λ v. is_some (function_of v) ≡ true) status_functions (refl, (refl, tt))
 
 -- each code that stands under the qualifier in these pairs is one of the seven
-abbrev known : Qualifier → List Pair → Bool
+abbrev known : Qualifier → List (Qualifier × List ℕ) → Bool
 known q [] = true
-known q (p ∷ ps) = (not (is_qualifier p.0 q) || is_some (code_of (p.1.0 ∷ p.1.1 ∷ p.1.2 ∷ p.1.3 ∷ []))) && known q ps
+known q (p ∷ ps) = (not (is_qualifier p.0 q) || is_some (code_of p.1)) && known q ps
 
-code_there : (q : Qualifier) (ps : List Pair) → known q ps ≡ true → (c : List ℕ) → paired ps q c ≡ true → is_some (code_of c) ≡ true
+code_there : (q : Qualifier) (ps : List (Qualifier × List ℕ)) → known q ps ≡ true → (c : List ℕ) → paired ps q c ≡ true → is_some (code_of c) ≡ true
 code_there q [] k c h = never h
 code_there q (p ∷ ps) k c h =
-    let w = p.1.0 ∷ p.1.1 ∷ p.1.2 ∷ p.1.3 ∷ [] in
-    let both = and_parts (not (is_qualifier p.0 q) || is_some (code_of w)) (known q ps) k in
-    elim (or_cases (pairs p q c) (paired ps q c) h) [
+    let both = and_parts (not (is_qualifier p.0 q) || is_some (code_of p.1)) (known q ps) k in
+    elim (or_cases (is_qualifier p.0 q && bytes_eq p.1 c) (paired ps q c) h) [
       | inl e ↦
-          (let m = and_parts (is_qualifier p.0 q) (spells p.1 c) e in
-          elim (or_cases (not (is_qualifier p.0 q)) (is_some (code_of w)) both.0) [
+          (let m = and_parts (is_qualifier p.0 q) (bytes_eq p.1 c) e in
+          elim (or_cases (not (is_qualifier p.0 q)) (is_some (code_of p.1)) both.0) [
             | inl n ↦ absurd (both_ways (is_qualifier p.0 q) (not-true _ n) m.0)
-            | inr n ↦ subst (λ (x : List ℕ). is_some (code_of x) ≡ true) ((bytes_eq-Decides w c).0 m.1) n
+            | inr n ↦ subst (λ (x : List ℕ). is_some (code_of x) ≡ true) ((bytes_eq-Decides p.1 c).0 m.1) n
           ])
       | inr e ↦ code_there q ps both.1 c e
     ]

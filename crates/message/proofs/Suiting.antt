@@ -6,12 +6,12 @@ use Rattle.fields.specs.Fields.{value_in}
 use Rattle.fields.specs.declared.headers.Qualifier.{Qualifier}
 use Rattle.fields.specs.declared.headers.Tag.{Tag}
 use Rattle.fields.specs.declared.walk.Field.{Field as TextField}
-use Rattle.sheet.specs.declared.rows.FieldRow.{FieldRow}
-use Rattle.sheet.specs.declared.rows.Row.{Row}
-use Rattle.sheet.specs.declared.rows.Row.TheVariants.{Field}
+use Rattle.sheet.specs.Rows.{FieldRow}
+use Rattle.sheet.specs.Rows.{Row}
+use Rattle.sheet.specs.Rows.Row.{Field}
 use Rattle.sheet.specs.Keys.{key_as, key_of, find_row, row_has}
 use Rattle.sheet.specs.Keys.Key.{opens, closes, names}
-use Rattle.sheet.specs.Rows.{qualifiers_of, is_tag, admits}
+use Rattle.sheet.specs.Rows.{is_tag, admits}
 use Rattle.sheet.proofs.Keyed.{found_row}
 use Rattle.reader.specs.Reading.{Codes}
 use Rattle.reader.specs.Tables.{entry_of}
@@ -21,17 +21,17 @@ use Rattle.message.proofs.Never.{never, some_none}
 
 -- a field that has the key of a field's row has a qualifier that the row admits
 admitted : (f : FieldRow) (t : Tag) (q : Option Qualifier) (v : List ℕ) → row_has (Field f) (key_as t q v) ≡ true
-    → admits (qualifiers_of f.qualifiers) q ≡ true
+    → admits f.qualifiers q ≡ true
 admitted f t q v h = by (is_tag t (49, 54, 82)) (is_tag t (49, 54, 83)) h
   where
-    by : (a b : Bool) → row_has (Field f) (cond a (opens v) (cond b (closes v) (names t q))) ≡ true → admits (qualifiers_of f.qualifiers) q ≡ true
+    by : (a b : Bool) → row_has (Field f) (cond a (opens v) (cond b (closes v) (names t q))) ≡ true → admits f.qualifiers q ≡ true
     by true b h = never h
     by false true h = never h
-    by false false h = (and_parts (is_tag t f.tag) (admits (qualifiers_of f.qualifiers) q) h).1
+    by false false h = (and_parts (is_tag t f.tag) (admits f.qualifiers q) h).1
 
 -- the value has the row's format, under a qualifier that the row admits
 abbrev pub Suits : (Option Qualifier → List ℕ → Bool) → FieldRow → List ℕ → Type 0
-Suits has f v = (q : Option Qualifier) × (admits (qualifiers_of f.qualifiers) q ≡ true) × (value_fits (has q) q f.format v ≡ true)
+Suits has f v = (q : Option Qualifier) × (admits f.qualifiers q ≡ true) × (value_fits (has q) q f.format v ≡ true)
 
 module _ (rows : List Row) (codes : Codes) (text : List ℕ) (r : ℕ) (row : FieldRow) (there : slice_get rows r ≡ Some (Field row)) where
   suits_field : (f : TextField) → field_fits rows codes text f ≡ true → find_row rows (key_of text f) ≡ Some r → Suits (codes r) row (value_in text f)

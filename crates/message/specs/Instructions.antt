@@ -1,5 +1,5 @@
 -- The parts of an instruction. Assumes nothing.
-use Rattle.std.specs.Prelude.{ℕ, min, Bool, ◌&&◌, List, take}
+use Rattle.std.specs.Prelude.{ℕ, Bool, ◌&&◌, List}
 use Rattle.std.specs.Str.{bytes_eq}
 use Rattle.format.specs.declared.votes.VoteText.{VoteText}
 use Rattle.message.specs.declared.instruction.Rights.{Rights}
@@ -20,4 +20,4 @@ same_rights a b = bytes_eq a.country b.country && bytes_eq a.identifier b.identi
 
 -- the votes that are kept
 abbrev pub given_votes : GivenVotes → List VoteText
-given_votes v = take (min v.count 64) v.items
+given_votes v = v.kept.items

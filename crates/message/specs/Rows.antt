@@ -3,7 +3,7 @@ use Rattle.std.specs.Prelude.{ℕ, List, length, Some, Option}
 use Prim.Native.String.{String}
 use Rattle.std.specs.Option.{unwrap_or}
 use Rattle.fields.specs.declared.headers.Qualifier.{Qualifier}
-use Rattle.sheet.specs.declared.rows.Row.{Row}
+use Rattle.sheet.specs.Rows.{Row}
 use Rattle.sheet.specs.Keys.{find_row}
 use Rattle.sheet.specs.Keys.Key.{names}
 use Rattle.sheets.specs.Tables.{rows565, rows567}

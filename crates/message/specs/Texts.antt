@@ -1,7 +1,7 @@
 -- Short texts. Assumes nothing.
-use Rattle.std.specs.Prelude.{ℕ, min, List, take}
-use Rattle.message.specs.declared.text.ShortText.{ShortText}
+use Rattle.std.specs.Prelude.{ℕ, List}
+use Rattle.short.specs.Short.{Short}
 
 -- the characters of a text that is kept
-abbrev pub text_of : ShortText → List ℕ
-text_of t = take (min t.len 35) t.bytes
+abbrev pub text_of : Short ℕ → List ℕ
+text_of t = t.items

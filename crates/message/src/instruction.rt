@@ -1,10 +1,10 @@
 // What an instruction to vote says, message 565.
-ghost use Rattle.std.specs.Prelude.{◌≡◌};
-ghost use Rattle.message.specs.Instructions.{same_rights, rights_of, given_votes};
+ghost use Rattle.std.specs.Prelude.{◌≡◌, min, length};
 
-use crate::text::{ShortText, is_same};
+use crate::text::ShortText;
 use format::votes::VoteText;
 use register::reference::Reference;
+use short::short::Short;
 
 // What the instruction is for: a new instruction (NEWM), or to cancel one (CANC).
 #[derive(Clone, Copy, PartialEq, Eq, Debug)]
@@ -14,38 +14,21 @@ pub enum Function {
 }
 
 // The rights identifier of a holder: country and identifier of an alternate identifier with the code RHID.
-#[derive(Clone, Copy)]
+#[derive(Clone, Copy, PartialEq, Eq)]
 pub struct Rights {
     pub country: [u8; 2],
     pub identifier: ShortText,
 }
 
-impl Rights {
-    // Is it the same rights identifier?
-    pub fn is(&self, other: &Rights) -> bool
-        ensures { result ≡ same_rights (rights_of self.now) (rights_of other.now) }
-    {
-        is_same(&self.country, &other.country) && self.identifier.is(&other.identifier)
-    }
-}
-
 // The most votes of a message that are kept.
 pub const MOST_VOTES: usize = 64;
 
-// The votes of a message: the first 64 of them, and how many there are in all.
+// The votes of a message: the first 64 of them, and how many there are in all. As many are kept as there are, up to 64.
 #[derive(Clone, Copy)]
 pub struct GivenVotes {
-    pub items: [VoteText; MOST_VOTES],
+    pub kept: Short<VoteText, MOST_VOTES>,
     pub count: usize,
-}
-
-impl GivenVotes {
-    // The votes that are kept.
-    pub fn kept(&self) -> &[VoteText]
-        ensures { result.now ≡ given_votes self.now }
-    {
-        &self.items[0..self.count.min(MOST_VOTES)]
-    }
+    pub ghost first: { length kept.items ≡ min count 64 },
 }
 
 #[derive(Clone, Copy)]

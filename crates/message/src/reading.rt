@@ -6,21 +6,20 @@ ghost use Rattle.sheets.specs.Standards.{sheet_of};
 ghost use Rattle.message.specs.Said.{said_by};
 ghost use Rattle.message.specs.Messages.{said_from, MessageRead, table_left};
 
-use crate::instructing::instruction;
 use crate::message::Message;
-use crate::reporting::status;
+use crate::values::ReadText;
 use reader::faults::ReadingFault;
 use reader::reading::read;
 use reader::table::Entry;
 use sheets::standard::StandardSheet;
 
-// What the text says as the message of this number, by the entries of its fields.
-fn decode(number: u16, text: &[u8], entries: &[Entry]) -> Option<Message>
-    ensures { option_map said_by result ≡ and_then (sheet_of number) (λ s. said_from s text.now entries.now) }
+// What the text says as the message of this number.
+fn decode(number: u16, read: ReadText<'_>) -> Option<Message>
+    ensures { option_map said_by result ≡ and_then (sheet_of number) (λ s. said_from s read.entry.text.now read.entry.entries.now) }
 {
-    match StandardSheet::of(number)? {
-        StandardSheet::Mt565 => Some(Message::Instructs(instruction(text, entries)?)),
-        StandardSheet::Mt567 => Some(Message::Reports(status(text, entries)?)),
+    match StandardSheet::try_from(number).ok()? {
+        StandardSheet::Mt565 => Some(Message::Instructs(read.instruction()?)),
+        StandardSheet::Mt567 => Some(Message::Reports(read.status()?)),
     }
 }
 
@@ -31,8 +30,6 @@ pub fn read_message(number: u16, text: &[u8], table: &mut [Entry]) -> Result<Mes
     ensures entries { table.new ≡ table_left number text.now table.old }
 {
     let count = read(number, text, table)?;
-    match decode(number, text, &table[0..count]) {
-        Some(message) => Ok(message),
-        None => unreachable(),
-    }
+    let entries = &table[..count];
+    Ok(decode(number, ReadText { text, entries }).unwrap())
 }

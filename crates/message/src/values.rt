@@ -1,5 +1,5 @@
 // The values of a text, by its field table.
-ghost use Rattle.std.specs.Prelude.{◌≡◌, take, drop, Some as Given};
+ghost use Rattle.std.specs.Prelude.{◌≡◌, ◌==◌, find, Some as Given};
 ghost use Rattle.std.specs.Option.{option_map};
 ghost use Rattle.reader.specs.Values.{content_of};
 ghost use Rattle.register.specs.Spelling.{spelling};
@@ -9,41 +9,68 @@ ghost use Rattle.message.specs.Values.{value_at, value_of, content_in, as_refere
 use crate::rows::Keyed;
 use crate::text::ShortText;
 use fields::headers::Qualifier;
+use fields::walk::part;
 use format::quantities::quantity;
 use reader::table::Entry;
 use register::reference::Reference;
 
-// What stands from the place on; nothing, where that is past the end.
-pub(crate) fn from_place(text: &[u8], place: usize) -> &[u8]
-    ensures { result.now ≡ drop place text.now }
-{
-    &text[place.min(text.len())..]
+// A text that was read, and the entries of its fields. A part that is not there, or cannot be read, is None.
+// Stays None, and no error: a text that is read has every part, so that none would ever be told.
+#[derive(Clone, Copy)]
+pub(crate) struct ReadText<'a> {
+    pub text: &'a [u8],
+    pub entries: &'a [Entry],
 }
 
-// The first `len` bytes; less, where there are not so many.
-pub(crate) fn front(text: &[u8], len: usize) -> &[u8]
-    ensures { result.now ≡ take len text.now }
-{
-    &text[0..len.min(text.len())]
-}
-
-// The value of an entry: the part of the text that it points to; less, where it points past the end.
-pub(crate) fn value_of(text: &[u8], entry: Entry) -> &[u8]
-    ensures { result.now ≡ value_at text.now entry }
-{
-    front(from_place(text, entry.start), entry.len)
-}
-
-// The value of the first entry of the row.
-pub(crate) fn first_value<'a>(text: &'a [u8], table: &[Entry], row: usize) -> Option<&'a [u8]>
-    ensures { option_map (λ x. x.now) result ≡ value_of text.now table.now row }
-{
-    for entry in table {
-        if entry.row == row {
-            return Some(value_of(text, *entry));
-        }
+impl<'a> ReadText<'a> {
+    // The value of an entry: the part of the text that it points to; less, where it points past the end.
+    pub(crate) fn value_of(self, entry: Entry) -> &'a [u8]
+        ensures { result.now ≡ value_at self.entry.text.now entry }
+    {
+        part(self.text, entry.start, entry.len)
     }
-    None
+
+    // The first entry of the row.
+    fn first_entry(self, row: usize) -> Option<Entry>
+        ensures { result ≡ find (λ e. e.row == row) self.entry.entries.now }
+    {
+        self.entries.iter().find(|entry| entry.row == row).copied()
+    }
+
+    // Its value.
+    pub(crate) fn first_value(self, row: usize) -> Option<&'a [u8]>
+        ensures { option_map (λ x. x.now) result ≡ value_of self.entry.text.now self.entry.entries.now row }
+    {
+        Some(self.value_of(self.first_entry(row)?))
+    }
+
+    // What stands behind the qualifier in the row's first value.
+    fn content(self, key: Keyed) -> Option<&'a [u8]>
+        ensures { option_map (λ x. x.now) result ≡ content_in self.entry.text.now self.entry.entries.now key }
+    {
+        content(key.qualifier, self.first_value(key.row)?)
+    }
+
+    // That, as a reference.
+    pub(crate) fn reference(self, key: Keyed) -> Option<Reference>
+        ensures { option_map spelling result ≡ reference_in self.entry.text.now self.entry.entries.now key }
+    {
+        as_reference(self.content(key)?)
+    }
+
+    // As a text.
+    pub(crate) fn short_text(self, key: Keyed) -> Option<ShortText>
+        ensures { option_map text_of result ≡ text_in self.entry.text.now self.entry.entries.now key }
+    {
+        as_text(self.content(key)?)
+    }
+
+    // As a quantity of shares.
+    pub(crate) fn quantity(self, key: Keyed) -> Option<u64>
+        ensures { result ≡ quantity_in self.entry.text.now self.entry.entries.now key }
+    {
+        quantity(self.content(key)?)
+    }
 }
 
 // What stands in a value behind the qualifier and two slashes.
@@ -52,13 +79,6 @@ pub(crate) fn content(qualifier: Qualifier, value: &[u8]) -> Option<&[u8]>
 {
     let Qualifier(a, b, c, d) = qualifier;
     value.strip_prefix(&[a, b, c, d, b'/', b'/'])
-}
-
-// What stands behind the qualifier in the row's first value.
-fn content_at<'a>(text: &'a [u8], table: &[Entry], key: Keyed) -> Option<&'a [u8]>
-    ensures { option_map (λ x. x.now) result ≡ content_in text.now table.now key }
-{
-    content(key.qualifier, first_value(text, table, key.row)?)
 }
 
 // The reference that a text spells.
@@ -72,26 +92,5 @@ pub(crate) fn as_reference(content: &[u8]) -> Option<Reference>
 pub(crate) fn as_text(content: &[u8]) -> Option<ShortText>
     ensures { option_map text_of result ≡ as_text content.now }
 {
-    ShortText::new(content)
-}
-
-// The row's first value, as a reference.
-pub(crate) fn reference_at(text: &[u8], table: &[Entry], key: Keyed) -> Option<Reference>
-    ensures { option_map spelling result ≡ reference_in text.now table.now key }
-{
-    as_reference(content_at(text, table, key)?)
-}
-
-// As a text.
-pub(crate) fn text_at(text: &[u8], table: &[Entry], key: Keyed) -> Option<ShortText>
-    ensures { option_map text_of result ≡ text_in text.now table.now key }
-{
-    as_text(content_at(text, table, key)?)
-}
-
-// As a quantity of shares.
-pub(crate) fn quantity_at(text: &[u8], table: &[Entry], key: Keyed) -> Option<u64>
-    ensures { result ≡ quantity_in text.now table.now key }
-{
-    quantity(content_at(text, table, key)?)
+    ShortText::copied(0, content).ok()
 }

@@ -1,10 +1,10 @@
 -- How a table is filled, entry by entry. Assumes nothing.
-use Rattle.std.proofs.Common.{◌≡◌, ℕ, ◌+◌, ◌<◌, ◌≤◌, List, [], ◌∷◌, ◌++◌, map, length, take, drop, set, sym, refl, ap, ◌∙◌, append_assoc, arith}
-use Rattle.std.proofs.lemmas.List.{drop_more, drop_all, drop-set-lt, take_more_set, take-append-drop}
+use Rattle.std.proofs.Common.{◌≡◌, ℕ, ◌+◌, ◌<◌, ◌≤◌, List, [], ◌∷◌, ◌++◌, map, length, take, drop, set, sym, refl, ap, ◌∙◌, append_assoc, append-nil, arith}
+use Rattle.std.proofs.lemmas.List.{drop_more, drop_all, take_all, drop-set-lt, take_more_set}
 use Rattle.reader.specs.declared.table.Entry.{Entry}
 use Rattle.reader.specs.Tables.{filled}
 
-pub fill_more : (e : Entry) (es table : List Entry) (at : ℕ) → at < length table
+fill_more : (e : Entry) (es table : List Entry) (at : ℕ) → at < length table
     → take at table ++ filled (e ∷ es) (drop at table) ≡ take (at + 1) (set table at e) ++ filled es (drop (at + 1) (set table at e))
 fill_more e es table at h =
     let l : at < at + 1 = omega arith in
@@ -15,12 +15,9 @@ none_filled : (es : List Entry) → filled es [] ≡ []
 none_filled [] = refl
 none_filled (e ∷ es) = refl
 
-pub fill_full : (e : Entry) (es table : List Entry) (at : ℕ) → length table ≤ at
-    → take at table ++ filled (e ∷ es) (drop at table) ≡ take at table ++ filled es (drop at table)
-fill_full e es table at h = rw (drop_all at table h) (ap (λ (t : List Entry). take at table ++ t) (sym (none_filled es)))
-
-pub fill_end : (table : List Entry) (at : ℕ) → take at table ++ filled [] (drop at table) ≡ table
-fill_end table at = take-append-drop at table
+-- with room for no more, nothing is left to write
+pub full : (es table : List Entry) (at : ℕ) → length table ≤ at → take at table ++ filled es (drop at table) ≡ table
+full es table at h = rw (drop_all at table h, none_filled es, take_all at table h) (append-nil table)
 
 -- with room for all, the first entries are all of them
 pub fill_front : (es table : List Entry) → length es ≤ length table → take (length es) (filled es table) ≡ es
@@ -36,12 +33,3 @@ pub turn_more : {F : Type 0} (entry : F → Entry) (cs rest : List F) (f : F) (e
 turn_more {F} entry cs rest f e table at p q h =
     ap (λ (x : List F). take at table ++ filled (map entry x) (drop at table)) p
     ∙ ap (λ (x : Entry). take at table ++ filled (x ∷ map entry rest) (drop at table)) (sym q) ∙ fill_more e (map entry rest) table at h
-
-pub turn_full : {F : Type 0} (entry : F → Entry) (cs rest : List F) (f : F) (table : List Entry) (at : ℕ) → cs ≡ f ∷ rest → length table ≤ at
-    → take at table ++ filled (map entry cs) (drop at table) ≡ take at table ++ filled (map entry rest) (drop at table)
-turn_full {F} entry cs rest f table at p h =
-    ap (λ (x : List F). take at table ++ filled (map entry x) (drop at table)) p ∙ fill_full (entry f) (map entry rest) table at h
-
-pub turn_end : {F : Type 0} (entry : F → Entry) (cs : List F) (table : List Entry) (at : ℕ) → cs ≡ []
-    → take at table ++ filled (map entry cs) (drop at table) ≡ table
-turn_end {F} entry cs table at p = ap (λ (x : List F). take at table ++ filled (map entry x) (drop at table)) p ∙ fill_end table at

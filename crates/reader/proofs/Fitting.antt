@@ -20,8 +20,8 @@ use Rattle.format.proofs.VoteLaws.{vote_decoded}
 use Rattle.format.proofs.IdentifierLaws.{identifier_decoded}
 use Rattle.sheet.specs.declared.rows.Format.{Format}
 use Rattle.sheet.specs.declared.rows.Format.TheVariants.{Reference, Code, Timestamp, Isin, Account, Owner, AlternateIdentifier, Quantity, OptionNumber, Vote}
-use Rattle.sheet.specs.declared.rows.Row.{Row}
-use Rattle.sheet.specs.declared.rows.Row.TheVariants.{Open, Close, Field}
+use Rattle.sheet.specs.Rows.{Row}
+use Rattle.sheet.specs.Rows.Row.{Open, Close, Field}
 use Rattle.sheet.specs.Keys.{key_of, find_row}
 use Rattle.sheet.specs.Lawful.{Lawful}
 use Rattle.sheet.proofs.Keyed.{only_row, found_row}

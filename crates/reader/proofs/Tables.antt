@@ -6,7 +6,7 @@ use Rattle.fields.specs.Faults.{text_verdict}
 use Rattle.fields.specs.Fields.{fields}
 use Rattle.fields.specs.Laws.{Told}
 use Rattle.fields.proofs.Verdicts.{checked}
-use Rattle.sheet.specs.declared.rows.Row.{Row}
+use Rattle.sheet.specs.Rows.{Row}
 use Rattle.sheet.specs.Keys.{key_of, keys_of}
 use Rattle.sheet.specs.Lawful.{Lawful}
 use Rattle.sheet.specs.Laws.{KeySentence, Spells}

@@ -15,8 +15,8 @@ use Rattle.format.specs.Identifier.{Identifier, InIdentifier, identifier_text}
 use Rattle.format.specs.declared.votes.VoteText.{VoteText}
 use Rattle.sheet.specs.declared.rows.Format.{Format}
 use Rattle.sheet.specs.declared.rows.Format.TheVariants.{Reference, Code, Timestamp, Isin, Account, Owner, AlternateIdentifier, Quantity, OptionNumber, Vote}
-use Rattle.sheet.specs.declared.rows.Row.{Row}
-use Rattle.sheet.specs.declared.rows.Row.TheVariants.{Open, Close, Field}
+use Rattle.sheet.specs.Rows.{Row}
+use Rattle.sheet.specs.Rows.Row.{Open, Close, Field}
 use Rattle.sheet.specs.Keys.{key_of, keys_of, row_has}
 use Rattle.sheet.specs.Sentences.{IsSentence}
 use Rattle.sheet.specs.Laws.{KeySentence, KeyJudged, Spells}

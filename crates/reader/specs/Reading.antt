@@ -4,7 +4,7 @@ use Rattle.fields.specs.declared.faults.TextFault.{TextFault}
 use Rattle.fields.specs.declared.headers.Qualifier.{Qualifier}
 use Rattle.fields.specs.Faults.{text_verdict}
 use Rattle.fields.specs.Fields.{fields}
-use Rattle.sheet.specs.declared.rows.Row.{Row}
+use Rattle.sheet.specs.Rows.{Row}
 use Rattle.sheet.specs.Order.{order_fault}
 use Rattle.reader.specs.declared.faults.ReadingFault.{ReadingFault}
 use Rattle.reader.specs.declared.faults.ReadingFault.TheVariants.{Order, Value, Table}

@@ -3,7 +3,7 @@ use Rattle.std.specs.Prelude.{ℕ, List, [], ◌∷◌, map, length}
 use Rattle.std.specs.Option.{unwrap_or}
 use Rattle.fields.specs.declared.walk.Field.{Field as TextField}
 use Rattle.fields.specs.Fields.{fields}
-use Rattle.sheet.specs.declared.rows.Row.{Row}
+use Rattle.sheet.specs.Rows.{Row}
 use Rattle.sheet.specs.Keys.{key_of, find_row}
 use Rattle.reader.specs.declared.table.Entry.{Entry}
 

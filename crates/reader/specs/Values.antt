@@ -11,8 +11,8 @@ use Rattle.format.specs.Vote.{read_vote}
 use Rattle.format.specs.Identifier.{read_identifier}
 use Rattle.sheet.specs.declared.rows.Format.{Format}
 use Rattle.sheet.specs.declared.rows.Format.TheVariants.{Reference, Code, Timestamp, Isin, Account, Owner, AlternateIdentifier, Quantity, OptionNumber, Vote}
-use Rattle.sheet.specs.declared.rows.Row.{Row}
-use Rattle.sheet.specs.declared.rows.Row.TheVariants.{Open, Close, Field}
+use Rattle.sheet.specs.Rows.{Row}
+use Rattle.sheet.specs.Rows.Row.{Open, Close, Field}
 use Rattle.sheet.specs.Keys.{key_of, find_row}
 
 -- a qualifier with two slashes, or nothing

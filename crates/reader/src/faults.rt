@@ -1,8 +1,10 @@
 // Why a text is not read.
 ghost use Rattle.std.specs.Prelude.{◌≡◌};
+ghost use Rattle.reader.specs.declared.faults.ReadingFault.TheVariants.{MessageNumber as unknown};
 ghost use Rattle.reader.specs.Faults.{number_of, place_of, of_text};
 
 use fields::faults::TextFault;
+use sheets::standard::UnknownMessage;
 
 // The first question that a reading fails, with its place.
 #[derive(Clone, Copy, PartialEq, Eq, Debug)]
@@ -25,6 +27,7 @@ pub enum ReadingFault {
 
 impl ReadingFault {
     // The number of the question that is answered no.
+    // Stays a number: the rules name each question by it, and it is what a caller is told.
     pub fn number(self) -> u8
         ensures { result ≡ number_of self }
     {
@@ -54,6 +57,7 @@ impl ReadingFault {
     }
 }
 
+// Stays a list of variants: a fault of the text is this fault with its own number and place, which callers name without the text.
 impl From<TextFault> for ReadingFault {
     ghost from_gives = { λ e r. r ≡ of_text e };
 
@@ -63,5 +67,14 @@ impl From<TextFault> for ReadingFault {
             TextFault::Character(at) => ReadingFault::Character(at),
             TextFault::Line(start) => ReadingFault::Line(start),
         }
+    }
+}
+
+// No sheet has the message number.
+impl From<UnknownMessage> for ReadingFault {
+    ghost from_gives = { λ _ r. r ≡ unknown };
+
+    fn from(_fault: UnknownMessage) -> ReadingFault {
+        ReadingFault::MessageNumber
     }
 }

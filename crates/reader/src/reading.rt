@@ -1,6 +1,8 @@
 // Reading a text by a sheet.
 ghost use Rattle.std.specs.Prelude.{◌≡◌, length};
-ghost use Rattle.reader.specs.Reading.{sentence_verdict, read_verdict};
+ghost use Rattle.sheet.specs.Order.{order_fault};
+ghost use Rattle.reader.specs.Values.{value_fault};
+ghost use Rattle.reader.specs.Reading.{fault_at, sentence_verdict, read_verdict};
 ghost use Rattle.sheets.specs.Standards.{sheet_of};
 ghost use Rattle.reader.specs.Laws.{SentenceChecked, Reads};
 ghost use Rattle.reader.specs.Numbers.{ReadsNumbered};
@@ -14,18 +16,33 @@ use sheet::interface::Sheet;
 use sheet::order::order_fault;
 use sheets::standard::StandardSheet;
 
+// Is the order of the fields that of a sentence?
+fn check_order<S: Sheet>(sheet: &S, text: &[u8]) -> Result<(), ReadingFault>
+    ensures { result ≡ fault_at ReadingFault.Order (order_fault (S.rows sheet.now) text.now) (Ok tt) }
+{
+    match order_fault(sheet, text) {
+        Some(start) => Err(ReadingFault::Order(start)),
+        None => Ok(()),
+    }
+}
+
+// Has each value the format of its row?
+fn check_values<S: Sheet>(sheet: &S, text: &[u8]) -> Result<(), ReadingFault>
+    ensures { result ≡ fault_at ReadingFault.Value (value_fault (S.rows sheet.now) (S.codes sheet.now) text.now) (Ok tt) }
+{
+    match value_fault(sheet, text) {
+        Some(start) => Err(ReadingFault::Value(start)),
+        None => Ok(()),
+    }
+}
+
 // The first of the questions about length, characters, lines, order and values that the text fails. Each takes one pass.
 fn first_fault<S: Sheet>(sheet: &S, text: &[u8]) -> Result<(), ReadingFault>
     ensures { result ≡ sentence_verdict (S.rows sheet.now) (S.codes sheet.now) text.now }
 {
     check_text(text)?;
-    if let Some(start) = order_fault(sheet, text) {
-        return Err(ReadingFault::Order(start));
-    }
-    if let Some(start) = value_fault(sheet, text) {
-        return Err(ReadingFault::Value(start));
-    }
-    Ok(())
+    check_order(sheet, text)?;
+    check_values(sheet, text)
 }
 
 // Is the text a sentence of the sheet? If not, answers the first question that it fails, and where.
@@ -59,11 +76,10 @@ pub fn read_by<S: Sheet>(sheet: &S, text: &[u8], table: &mut [Entry]) -> Result<
 
 // Reads the text as the message of this number, 565 or 567, into the table, and answers how many entries it filled. Refused, it leaves the
 // table as found.
+// Stays a number: it comes with the text from outside, and the first question is whether it is one of the two.
 pub fn read(number: u16, text: &[u8], table: &mut [Entry]) -> Result<usize, ReadingFault>
     ensures { ReadsNumbered (sheet_of number) text.now table.old table.new result }
 {
-    match StandardSheet::of(number) {
-        Some(sheet) => read_by(&sheet, text, table),
-        None => Err(ReadingFault::MessageNumber),
-    }
+    let sheet = StandardSheet::try_from(number)?;
+    read_by(&sheet, text, table)
 }

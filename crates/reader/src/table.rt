@@ -2,9 +2,9 @@
 ghost use Rattle.std.specs.Prelude.{◌≡◌};
 ghost use Rattle.reader.specs.Tables.{entry_of, table_of, filled};
 
-use fields::walk::{Field, Fields, value_of};
+use fields::walk::{Field, Fields};
 use sheet::interface::Sheet;
-use sheet::keys::find_row;
+use sheet::keys::{find_row, key_of};
 
 // An entry of a field table: the number of the field's row, from 0, and where its value starts and how long that is.
 #[derive(Clone, Copy, PartialEq, Eq, Debug)]
@@ -18,13 +18,8 @@ pub struct Entry {
 fn entry_of<S: Sheet>(sheet: &S, text: &[u8], field: Field) -> Entry
     ensures { result ≡ entry_of (S.rows sheet.now) text.now field }
 {
-    let value = value_of(text, field);
-    let row = match find_row(sheet, field.tag, field.qualifier, value) {
-        Some(i) => i,
-        None => sheet.len(),
-    };
     Entry {
-        row,
+        row: find_row(sheet, key_of(text, field)).unwrap_or(sheet.len()),
         start: field.value,
         len: field.len,
     }
@@ -34,11 +29,12 @@ fn entry_of<S: Sheet>(sheet: &S, text: &[u8], field: Field) -> Entry
 pub(crate) fn fill<S: Sheet>(sheet: &S, text: &[u8], table: &mut [Entry])
     ensures { table.new ≡ filled (table_of (S.rows sheet.now) text.now) table.old }
 {
-    let mut at = 0;
-    for field in Fields::of(text) {
-        if at < table.len() {
-            table[at] = entry_of(sheet, text, field);
-            at += 1;
-        }
+    // Stays two iterators side by side: after a `zip` of `iter_mut` a proof knows nothing of the entries.
+    let mut fields = Fields::of(text);
+    for entry in table.iter_mut() {
+        let Some(field) = fields.next() else {
+            return;
+        };
+        *entry = entry_of(sheet, text, field);
     }
 }

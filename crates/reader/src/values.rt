@@ -10,7 +10,7 @@ use format::quantities::quantity;
 use format::simple::{is_account, is_isin, is_option_number, is_owner, is_reference, is_timestamp};
 use format::votes::vote;
 use sheet::interface::Sheet;
-use sheet::keys::find_row;
+use sheet::keys::{find_row, key_of};
 use sheet::rows::{Format, Row};
 
 // What a value says: all of it, or what stands behind the qualifier and two slashes.
@@ -23,46 +23,46 @@ fn content(qualifier: Option<Qualifier>, value: &[u8]) -> Option<&[u8]>
     }
 }
 
-// Has the content of a value the format, where the row of this number asks for it under this qualifier?
-fn content_fits<S: Sheet>(
-    sheet: &S,
+// What a sheet asks of a value: the format of its row, which has this number, under this qualifier.
+#[derive(Drop)]
+struct Asked<'a, S> {
+    sheet: &'a S,
     row: usize,
     qualifier: Option<Qualifier>,
     format: Format,
-    content: &[u8],
-) -> bool
-    ensures { result ≡ content_fits (S.codes sheet.now row qualifier) format content.now }
-{
-    match format {
-        Format::Reference => is_reference(content),
-        Format::Code => sheet.has_code(row, qualifier, content),
-        Format::Timestamp => is_timestamp(content),
-        Format::Isin => is_isin(content),
-        Format::Account => is_account(content),
-        Format::Owner => is_owner(content),
-        Format::AlternateIdentifier => false,
-        Format::Quantity => quantity(content).is_some(),
-        Format::OptionNumber => is_option_number(content),
-        Format::Vote => vote(content).is_some(),
-    }
 }
 
-// Has the value the format? An alternate identifier is told by the whole value, any other by what stands behind the qualifier.
-fn value_fits<S: Sheet>(
-    sheet: &S,
-    row: usize,
-    qualifier: Option<Qualifier>,
-    format: Format,
-    value: &[u8],
-) -> bool
-    ensures { result ≡ value_fits (S.codes sheet.now row qualifier) qualifier format value.now }
-{
-    if let Format::AlternateIdentifier = format {
-        return identifier(value).is_some();
+impl<S: Sheet> Asked<'_, S> {
+    // Has the content of a value the format?
+    fn content_fits(&self, content: &[u8]) -> bool
+        ensures { result ≡ content_fits (S.codes self.now.sheet.now self.now.row self.now.qualifier) self.now.format content.now }
+    {
+        match self.format {
+            Format::Reference => is_reference(content),
+            Format::Code => self.sheet.has_code(self.row, self.qualifier, content),
+            Format::Timestamp => is_timestamp(content),
+            Format::Isin => is_isin(content),
+            Format::Account => is_account(content),
+            Format::Owner => is_owner(content),
+            Format::AlternateIdentifier => false,
+            Format::Quantity => quantity(content).is_some(),
+            Format::OptionNumber => is_option_number(content),
+            Format::Vote => vote(content).is_some(),
+        }
     }
-    match content(qualifier, value) {
-        Some(content) => content_fits(sheet, row, qualifier, format, content),
-        None => false,
+
+    // Has the value the format? An alternate identifier is told by the whole value, any other by what stands behind the qualifier.
+    fn value_fits(&self, value: &[u8]) -> bool
+        ensures { result ≡ value_fits (S.codes self.now.sheet.now self.now.row self.now.qualifier) self.now.qualifier self.now.format value.now }
+    {
+        if self.format == Format::AlternateIdentifier {
+            return identifier(value).is_some();
+        }
+        // Stays a match: through the closure of `is_some_and`, which asks a sheet, the proof does not close.
+        match content(self.qualifier, value) {
+            Some(content) => self.content_fits(content),
+            None => false,
+        }
     }
 }
 
@@ -70,12 +70,19 @@ fn value_fits<S: Sheet>(
 fn field_fits<S: Sheet>(sheet: &S, text: &[u8], field: Field) -> bool
     ensures { result ≡ field_fits (S.rows sheet.now) (S.codes sheet.now) text.now field }
 {
-    let value = value_of(text, field);
-    let Some(i) = find_row(sheet, field.tag, field.qualifier, value) else {
+    let Some(number) = find_row(sheet, key_of(text, field)) else {
         return false;
     };
-    match sheet.row(i) {
-        Some(Row::Field(row)) => value_fits(sheet, i, field.qualifier, row.format, value),
+    match sheet.row(number) {
+        Some(Row::Field(row)) => {
+            let asked = Asked {
+                sheet,
+                row: number,
+                qualifier: field.qualifier,
+                format: row.format,
+            };
+            asked.value_fits(value_of(text, field))
+        }
         Some(Row::Open(..) | Row::Close(_)) => true,
         None => false,
     }
@@ -85,10 +92,7 @@ fn field_fits<S: Sheet>(sheet: &S, text: &[u8], field: Field) -> bool
 pub(crate) fn value_fault<S: Sheet>(sheet: &S, text: &[u8]) -> Option<usize>
     ensures { result ≡ value_fault (S.rows sheet.now) (S.codes sheet.now) text.now }
 {
-    for field in Fields::of(text) {
-        if !field_fits(sheet, text, field) {
-            return Some(field.value);
-        }
-    }
-    None
+    Fields::of(text)
+        .find(|field| !field_fits(sheet, text, *field))
+        .map(|field| field.value)
 }

@@ -1,21 +1,21 @@
 -- Lists that ascend by their references.
-use Rattle.std.proofs.Common.{◌≡◌, ℕ, zero, suc, ◌-◌, ◌<◌, ◌≤◌, min, Bool, true, false, List, [], ◌∷◌, ◌++◌, length, get_or, take, drop, is_some, is_ok, Some, None, Ok, Err, Result, Ordering, Less, Equal, Greater, sym, refl, ap, ◌∙◌, subst, arith, MatchResult}
+use Rattle.std.proofs.Common.{◌≡◌, ℕ, zero, suc, ◌+◌, ◌*◌, ◌^◌, ◌<◌, ◌≤◌, true, false, List, [], ◌∷◌, ◌++◌, length, get_or, take, drop, is_some, is_ok, Some, None, Ok, Err, Result, Ordering, Less, Equal, Greater, sym, refl, ap, ◌∙◌, subst, arith}
 use Rattle.std.specs.Cmp.{nat_cmp_total}
 use Rattle.std.specs.Ordering.{ordering_reverse, ordering_then}
-use Rattle.std.specs.List.{HoldsAt, insert, remove, AllByRecursion}
+use Rattle.std.specs.List.{insert, remove, AllByRecursion}
 use Rattle.std.specs.Str.{bytes_eq}
+use Rattle.std.specs.Result.{result_ok}
 use Rattle.std.proofs.ByRecursion.{All-weaker, All-take, All-drop, All-append, All-get_or}
-use Rattle.std.proofs.lemmas.List.{take-append-drop, length-take, get_or-take}
+use Rattle.std.proofs.lemmas.List.{take-append-drop}
 use Rattle.std.proofs.lemmas.Bool.{true≢false, false≢true}
 use Rattle.std.proofs.lemmas.Bool.Decides.{nat_tests}
 use Rattle.register.specs.declared.entry.Entry.{Entry}
 use Rattle.register.specs.Order.{order}
 use Rattle.register.specs.Pairs.{Pair, key, look}
-use Rattle.register.proofs.Rows.{take_cut}
-use Rattle.register.specs.Places.{Ascending, Sought, Halved}
-use Rattle.register.specs.Lists.{Compared, ranked}
-use Rattle.register.specs.Rising.{less_apart, order_turn, look_absent, distinct_from_ascending}
-use Rattle.register.proofs.Pairs.{same_flip, same_refl, look_hit, look_some}
+use Rattle.register.specs.Places.{Ascending, Placed, Sought, Compared}
+use Rattle.register.specs.Lists.{ranked}
+use Rattle.register.specs.Rising.{less_apart, order_turn, look_absent}
+use Rattle.register.proofs.Pairs.{same_flip, same_refl, look_some, placed_there}
 use Rattle.std.specs.Ordering as std_orderings
 use Rattle.std.specs.Cmp.Lexicographic.{lists_total}
 
@@ -80,56 +80,39 @@ module _ {V : Type 0} where
   pub between : (ps : List (Entry V)) (i : ℕ) (k : List ℕ) (d : Entry V) → Ascending ps → Sought ps k (Err i) → AllByRecursion (λ q. order (key q) k ≡ Less) (take i ps) × AllByRecursion (λ q. order k (key q) ≡ Less) (drop i ps)
   between ps i k d up s = (before ps i k d up s.0 (λ j e. s.1 j (omega arith) d), after ps i k d up (λ lt. s.2 lt d))
 
-  pub sought_none : (ps : List (Entry V)) (i : ℕ) (k : List ℕ) (d : Entry V) → Ascending ps → Sought ps k (Err i) → look ps k ≡ None
-  sought_none ps i k d up s = let b = between ps i k d up s in look_between ps i k b.0 b.1
+  pub sought_none : (ps : List (Entry V)) (i : ℕ) (k : List ℕ) → Ascending ps → Sought ps k (Err i) → look ps k ≡ None
+  sought_none [] i k up s = refl
+  sought_none (p ∷ ps) i k up s = let b = between (p ∷ ps) i k p up s in look_between (p ∷ ps) i k b.0 b.1
 
   pub ascending_entered : (ps : List (Entry V)) (i : ℕ) (e : Entry V) → Ascending ps → Sought ps (key e) (Err i) → Ascending (insert ps i e)
   ascending_entered ps i e up s = let b = between ps i (key e) e up s in ascending_inserted ps i e up b.0 b.1
 
-  pub sought_in : (xs : List (Entry V)) (used n : ℕ) (k : List ℕ) (r : Result ℕ ℕ) → n ≡ min used (length xs) → Sought (take (n - 0) xs) k r → MatchResult r (λ i. (i < used) × (i < length xs)) (λ i. (i ≤ used) × (i ≤ length xs)) × Sought (take used xs) k r
-  sought_in xs used n k (Ok i) e h =
-      let m = length-take (n - 0) xs in
-      let lt = h.0 in
-      ((omega arith, omega arith), rw (← take_cut xs used n e) h)
-  sought_in xs used n k (Err i) e h =
-      let m = length-take (n - 0) xs in
-      let le = h.0 in
-      ((omega arith, omega arith), rw (← take_cut xs used n e) h)
-
   pub sought_hit : (ps : List (Entry V)) (i : ℕ) (k : List ℕ) (d : Entry V) → Sought ps k (Ok i) → bytes_eq (key (get_or ps i d)) k ≡ true
   sought_hit ps i k d s = equal_same (key (get_or ps i d)) k (s.1 d)
 
--- in order, a search says whether the reference is there
-pub sought_there : (xs : List Pair) (used : ℕ) (k : List ℕ) (d : Pair) (r : Result ℕ ℕ) → Ascending (take used xs) → Sought (take used xs) k r → is_some (look (take used xs) k) ≡ is_ok r
-sought_there xs used k d (Ok i) up s = look_some (take used xs) k i d s.0 (sought_hit (take used xs) i k d s)
-sought_there xs used k d (Err i) up s = ap is_some (sought_none (take used xs) i k d up s)
+  -- in order, a search finds a reference exactly where it stands
+  pub sought_placed : (ps : List (Entry V)) (k : List ℕ) (r : Result ℕ ℕ) → Ascending ps → Sought ps k r → Placed ps k (result_ok r)
+  sought_placed ps k (Ok i) up s = (s.0, λ d. sought_hit ps i k d s)
+  sought_placed ps k (Err i) up s = sought_none ps i k up s
 
--- and, if so, its number stands there
-pub sought_beside : (xs : List Pair) (used : ℕ) (k : List ℕ) (d : Pair) (r : Result ℕ ℕ) → Ascending (take used xs) → Sought (take used xs) k r → MatchResult r (λ i. HoldsAt (λ p. look (take used xs) k ≡ Some p.value) xs i) (λ _. look (take used xs) k ≡ None)
-sought_beside xs used k d (Ok i) up s = λ e.
-    let n = length-take used xs in
-    let l : i < used = (let lt = s.0 in omega arith) in
-    look_hit (take used xs) k i e (distinct_from_ascending (take used xs) up) s.0 (sought_hit (take used xs) i k e s) ∙ ap (λ p. Some p.value) (get_or-take used xs i e l)
-sought_beside xs used k d (Err i) up s = sought_none (take used xs) i k d up s
+  pub sought_there : (ps : List (Entry V)) (k : List ℕ) (r : Result ℕ ℕ) → Ascending ps → Sought ps k r → is_some (look ps k) ≡ is_ok r
+  sought_there ps k (Ok i) up s = placed_there ps k (Some i) (sought_placed ps k (Ok i) up s)
+  sought_there ps k (Err i) up s = ap is_some (sought_none ps i k up s)
 
--- what halving compared, told by whether the reference stands there
-pub compared_from : (used : ℕ) (xs : List Pair) (k : List ℕ) (d : Pair) (r : Result ℕ ℕ) (m : ℕ) → Sought (take used xs) k r → Halved (length (take used xs)) r m → Compared used xs k m
-compared_from used xs k d (Ok i) m s h = record {
-  bound = h.0;
-  hit = λ o e. h.1;
-  miss = λ o e.
-      let at = look_hit (take used xs) k i d (distinct_from_ascending (take used xs) o.1) s.0 (sought_hit (take used xs) i k d s) in
-      let z : ◌≡◌ {A = Bool} true false = sym (ap is_some at) ∙ e in
-      absurd (true≢false z);
-}
-compared_from used xs k d (Err i) m s h = record {
-  bound = h.0;
-  hit = λ o e.
-      let none = sought_none (take used xs) i k d o.1 s in
-      let z : ◌≡◌ {A = Bool} false true = sym (ap is_some none) ∙ e in
-      absurd (false≢true z);
-  miss = λ o e. h.1;
-}
+  -- what was compared where the reference stands, and where it does not
+  pub compared_found : (ps : List (Entry V)) (i : ℕ) (k : List ℕ) (d : Entry V) (m : ℕ) → Sought ps k (Ok i) → 2 ^ (m + 1) ≤ 2 * length ps + 1 → Compared ps k (m + 1)
+  compared_found ps i k d m s b = record {
+    bound = b;
+    hit = λ o e. omega arith;
+    miss = λ o e. absurd (true≢false (sym (look_some ps k i d s.0 (sought_hit ps i k d s)) ∙ e));
+  }
+
+  pub compared_missed : (ps : List (Entry V)) (i : ℕ) (k : List ℕ) (m : ℕ) → Sought ps k (Err i) → 2 ^ m ≤ 2 * length ps + 1 → length ps + 2 ≤ 2 * 2 ^ m → Compared ps k m
+  compared_missed ps i k m s b h = record {
+    bound = b;
+    hit = λ o e. absurd (false≢true (sym (ap is_some (sought_none ps i k o s)) ∙ e));
+    miss = λ o e. h;
+  }
 
 -- between those below and those above is the place of its rank
 ranked_at : (ps : List Pair) (i : ℕ) (e : Pair) → AllByRecursion (λ q. order (key q) (key e) ≡ Less) (take i ps) → AllByRecursion (λ q. order (key e) (key q) ≡ Less) (drop i ps) → insert ps i e ≡ ranked e ps

@@ -1,6 +1,5 @@
 -- How often a row can be halved.
-use Rattle.std.proofs.Common.{◌≡◌, ℕ, ◌+◌, ◌*◌, ◌^◌, ◌<◌, ◌≤◌, Ok, Err, mul_assoc, mul-le-mul_left, pow-suc, le-mul_of_pos_right, add-one, arith}
-use Rattle.register.specs.Places.{Halved}
+use Rattle.std.proofs.Common.{◌≡◌, ℕ, ◌+◌, ◌*◌, ◌^◌, ◌<◌, ◌≤◌, mul_assoc, mul-le-mul_left, pow-suc, le-mul_of_pos_right, add-one, arith}
 
 -- after m comparisons among n entries, w are left to search
 pub record Spent (n m w : ℕ) : Type 0 where
@@ -8,9 +7,6 @@ pub record Spent (n m w : ℕ) : Type 0 where
   pub below : n + 2 ≤ 2 ^ m * (w + 2)
   pub bound : 2 ^ m ≤ 2 * n + 1
   pub few : m + w ≤ n
-
-pub spent_none : (n : ℕ) → Spent n 0 n
-spent_none n = record { above = omega arith; below = omega arith; bound = omega arith; few = omega arith }
 
 doubled : (m x : ℕ) → 2 ^ (m + 1) * x ≡ 2 ^ m * (2 * x)
 doubled m x = rw (add-one, pow-suc) (mul_assoc (2 ^ m) 2 x)
@@ -31,14 +27,12 @@ spent_more n m w v s lo hi lt =
     record { above = omega arith; below = omega arith; bound = omega arith; few = omega arith }
 
 -- found in the comparison after m others
-pub halved_found : (n m w i : ℕ) → Spent n m w → 0 < w → Halved n (Ok i) (m + 1)
-halved_found n m w i s pos =
+pub found_count : (n m w : ℕ) → Spent n m w → 0 < w → 2 ^ (m + 1) ≤ 2 * n + 1
+found_count n m w s pos =
     let p : 2 ^ (m + 1) ≡ 2 ^ m * 2 = rw add-one (pow-suc 2 m) in
     let z = le-mul_of_pos_right (2 ^ m) pos in
     let above = s.above in
-    (omega arith, omega arith)
+    omega arith
 
-pub halved_missed : (n m w i : ℕ) → Spent n m w → w ≡ 0 → Halved n (Err i) m
-halved_missed n m w i s e =
-    let b : n + 2 ≤ 2 ^ m * 2 = rw e at s.below in
-    (s.bound, omega arith)
+pub missed_count : (n m w : ℕ) → Spent n m w → w ≡ 0 → n + 2 ≤ 2 * 2 ^ m
+missed_count n m w s e = let b : n + 2 ≤ 2 ^ m * 2 = rw e at s.below in omega arith

@@ -2,11 +2,9 @@ pub mod Padding
 pub mod Pairs
 pub mod Forgetting
 pub mod Edits
-pub mod Rows
 pub mod Gaps
 pub mod Halving
 pub mod Ascents
 pub mod Remembered
 pub mod Agreeing
 pub mod Running
-pub mod Uses

@@ -1,6 +1,6 @@
 -- Texts in sixteen bytes: padding changes neither their equality nor their order.
-use Rattle.std.proofs.Common.{◌≡◌, ℕ, zero, suc, ◌+◌, ◌-◌, ◌<◌, ◌≤◌, Bool, true, false, cond, ◌&&◌, T, eqb, leb, List, [], ◌∷◌, ◌++◌, length, get_or, take, drop, set, replicate, Less, Greater, sym, refl, ap, ◌∙◌, subst, inl, inr, arith}
-use Rattle.std.proofs.lemmas.List.{at_drop_more, at_drop_all, take_more, take_all, append_assoc, append-nil, set_at, length-take-le}
+use Rattle.std.proofs.Common.{◌≡◌, ℕ, zero, suc, ◌-◌, ◌<◌, ◌≤◌, Bool, true, false, ◌&&◌, T, eqb, leb, List, [], ◌∷◌, ◌++◌, length, get_or, take, drop, replicate, Less, Greater, sym, refl, ap, ◌∙◌, subst, inl, inr, arith}
+use Rattle.std.proofs.lemmas.List.{drop-replicate}
 use Rattle.std.specs.Ordering.{ordering_then, nat_cmp}
 use Rattle.std.specs.Str.{bytes_eq}
 use Rattle.std.proofs.lemmas.Slice.Eq.{bytes_eq-Decides}
@@ -18,9 +18,6 @@ both false b t = absurd t
 pub from_T : (b : Bool) → T b → b ≡ true
 from_T true t = refl
 from_T false t = absurd t
-
-pub to_T : (b : Bool) → b ≡ true → T b
-to_T b e = rw e tt
 
 pub zeros_are : (bs : List ℕ) → T (zeros bs) → bs ≡ replicate (length bs) 0
 zeros_are [] t = refl
@@ -127,40 +124,18 @@ unpadded_padded (b ∷ bs) n h =
     let P : ℕ → Type 0 = λ x. set_x x ≡ true in
     elim (cases_Bool (eqb b 0)) [ inl e ↦ absurd (let z : false ≡ true = subst P (eqb-true b 0 e) q.0 in false≢true z) | inr e ↦ rw (e, unpadded_padded bs n q.1) refl ]
 
--- the loops of `as_bytes` and `new`
-pub unpadded_more : (bs : List ℕ) (n : ℕ) → n < length bs → (get_or bs n 0 ≡ 0 → ⊥) → take n bs ++ unpadded (drop n bs) ≡ unpadded bs → take (n + 1) bs ++ unpadded (drop (n + 1) bs) ≡ unpadded bs
-unpadded_more bs n lt ne inv =
-    let b = get_or bs n 0 in
-    let m : unpadded (drop n bs) ≡ cond (eqb b 0) [] (b ∷ unpadded (drop (n + 1) bs)) = at_drop_more unpadded bs n 0 lt in
-    let f = ne_eqb b 0 ne in
-    let m' : unpadded (drop n bs) ≡ b ∷ unpadded (drop (n + 1) bs) = rw f at m in
-    ap (λ l. l ++ unpadded (drop (n + 1) bs)) (take_more bs n 0 lt) ∙ append_assoc (take n bs) (b ∷ []) (unpadded (drop (n + 1) bs)) ∙ ap (λ l. take n bs ++ l) (sym m') ∙ inv
+-- the text ends at the first zero, or with the last byte
+pub first_zero : (bs : List ℕ) (n : ℕ) → n < length bs → get_or bs n 0 ≡ 0 → ((k : ℕ) → k < n → get_or bs k 0 ≡ 0 → ⊥) → take n bs ≡ unpadded bs
+first_zero [] n lt e h = absurd (omega arith)
+first_zero (b ∷ bs) zero lt e h = rw (eq-eqb b 0 e) refl
+first_zero (b ∷ bs) (suc n) lt e h = rw (ne_eqb b 0 (h 0 (omega arith))) (ap (λ l. b ∷ l) (first_zero bs n (omega arith) e (λ k l. h (suc k) (omega arith))))
 
-pub unpadded_end : (bs : List ℕ) (n : ℕ) → n < length bs → get_or bs n 0 ≡ 0 → take n bs ++ unpadded (drop n bs) ≡ unpadded bs → take n bs ≡ unpadded bs
-unpadded_end bs n lt e inv =
-    let m : unpadded (drop n bs) ≡ cond (eqb (get_or bs n 0) 0) [] (get_or bs n 0 ∷ unpadded (drop (n + 1) bs)) = at_drop_more unpadded bs n 0 lt in
-    let m' : unpadded (drop n bs) ≡ [] = rw (eq-eqb (get_or bs n 0) 0 e) at m in
-    sym (append-nil (take n bs)) ∙ ap (λ l. take n bs ++ l) (sym m') ∙ inv
+pub no_zero : (bs : List ℕ) → ((k : ℕ) → k < length bs → get_or bs k 0 ≡ 0 → ⊥) → bs ≡ unpadded bs
+no_zero [] h = refl
+no_zero (b ∷ bs) h = rw (ne_eqb b 0 (h 0 (omega arith))) (ap (λ l. b ∷ l) (no_zero bs (λ k l. h (suc k) (omega arith))))
 
-pub unpadded_all : (bs : List ℕ) (n : ℕ) → length bs ≤ n → take n bs ++ unpadded (drop n bs) ≡ unpadded bs → take n bs ≡ unpadded bs
-unpadded_all bs n le inv = sym (append-nil (take n bs)) ∙ ap (λ l. take n bs ++ l) (sym (at_drop_all unpadded bs n le)) ∙ inv
-
-pub all_more : (t : List ℕ) (i : ℕ) (r : Bool) → i < length t → set_x (get_or t i 0) ≡ r → all_x (drop i t) ≡ all_x t → all_x t ≡ (r && all_x (drop (i + 1) t))
-all_more t i r lt e inv =
-    let m : all_x (drop i t) ≡ (set_x (get_or t i 0) && all_x (drop (i + 1) t)) = at_drop_more all_x t i 0 lt in
-    sym inv ∙ m ∙ ap (λ b. b && all_x (drop (i + 1) t)) e
-
-pub copied_more : (t : List ℕ) (i : ℕ) → i < length t → length t ≤ 16 → set (take i t ++ replicate (16 - i) 0) i (get_or t i 0) ≡ take (i + 1) t ++ replicate (16 - (i + 1)) 0
-copied_more t i lt le =
-    let e : 16 - i ≡ suc (16 - (i + 1)) = omega arith in
-    let n = length-take-le i t (omega arith) in
-    ap (λ k. set (take i t ++ replicate k 0) i (get_or t i 0)) e
-    ∙ set_at (take i t) 0 (replicate (16 - (i + 1)) 0) (get_or t i 0) i n
-    ∙ sym (append_assoc (take i t) (get_or t i 0 ∷ []) (replicate (16 - (i + 1)) 0))
-    ∙ ap (λ l. l ++ replicate (16 - (i + 1)) 0) (sym (take_more t i 0 lt))
-
-pub copied_all : (t bs : List ℕ) (i : ℕ) → length t ≤ i → i ≤ length t → bs ≡ take i t ++ replicate (16 - i) 0 → bs ≡ padded t
-copied_all t bs i le ge is = let e : i ≡ length t = omega arith in is ∙ rw (take_all i t le, e) refl
+pub copied : (t bs : List ℕ) → bs ≡ t → bs ++ drop (length t) (replicate 16 0) ≡ padded t
+copied t bs is = rw (is, drop-replicate {X = ℕ} (length t) 16 0) refl
 
 pub text_parts : (t : List ℕ) → is_text t ≡ true → (1 ≤ length t) × (length t ≤ 16) × (all_x t ≡ true)
 text_parts t h =

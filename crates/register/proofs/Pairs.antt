@@ -1,12 +1,16 @@
 -- Look-ups in lists of pairs with no reference twice.
-use Rattle.std.proofs.Common.{◌≡◌, ℕ, zero, suc, ◌<◌, ◌≤◌, true, cond, List, [], ◌∷◌, length, get_or, is_some, Some, None, sym, refl, ◌∙◌, inl, inr, arith}
+use Rattle.std.proofs.Common.{◌≡◌, ℕ, zero, suc, ◌<◌, ◌≤◌, true, false, cond, List, [], ◌∷◌, length, get_or, is_some, Some, None, Option, MatchOption, Bor, sym, refl, ap, ◌∙◌, inl, inr, arith}
 use Rattle.std.proofs.lemmas.Bool.Decides.{same_from_decides, Decides-like}
 use Rattle.std.proofs.lemmas.Bool.{cases_Bool}
-use Rattle.std.specs.List.{insert, remove}
+use Rattle.std.specs.List.{find, insert, remove, AllWithin, HoldsAt}
+use Rattle.std.specs.Option.{option_map}
+use Rattle.std.proofs.ByRecursion.{all_from_every}
 use Rattle.std.specs.Str.{bytes_eq}
 use Rattle.std.proofs.lemmas.Slice.Eq.{bytes_eq-Decides}
 use Rattle.register.specs.declared.entry.Entry.{Entry}
 pub use Rattle.register.specs.Rising.{same_refl, same_eq}
+use Rattle.register.specs.Rising.{look_absent}
+use Rattle.register.specs.Places.{Placed}
 use Rattle.register.specs.Pairs.{key, look, Distinct}
 
 pub same_flip : (a b : List ℕ) → bytes_eq a b ≡ bytes_eq b a
@@ -79,3 +83,23 @@ look_some (x ∷ xs) k zero d lt h = rw h refl
 look_some (x ∷ xs) k (suc i) d lt h =
     elim (cases_Bool (bytes_eq (key x) k)) [ inl e ↦ rw e refl | inr e ↦ rw e (look_some xs k i d (omega arith) h) ]
 look_some [] k i d lt h = absurd (omega arith)
+
+found_look : {V : Type 0} (ps : List (Entry V)) (k : List ℕ) → option_map (λ p. p.value) (find (λ p. bytes_eq (key p) k) ps) ≡ look ps k
+found_look [] k = refl
+found_look (p ∷ ps) k = elim (cases_Bool (bytes_eq (key p) k)) [ inl e ↦ rw e refl | inr e ↦ rw e (found_look ps k) ]
+
+-- what is found is what the first of its reference holds
+pub looked : {V : Type 0} (ps : List (Entry V)) (k : List ℕ) (o : Option (Bor (Entry V))) → option_map (λ p. p.now) o ≡ find (λ p. bytes_eq (key p) k) ps → look ps k ≡ option_map (λ p. p.now.value) o
+looked ps k None h = sym (found_look ps k) ∙ ap (option_map (λ p. p.value)) (sym h)
+looked ps k (Some e) h = sym (found_look ps k) ∙ ap (option_map (λ p. p.value)) (sym h)
+
+-- the first place of a reference
+pub placed_first : {V : Type 0} (ps : List (Entry V)) (k : List ℕ) (r : Option ℕ) → MatchOption r (AllWithin (λ p. bytes_eq (key p) k ≡ false) ps 0 (length ps)) (λ i. (i < length ps) × HoldsAt (λ p. bytes_eq (key p) k ≡ true) ps i × AllWithin (λ p. bytes_eq (key p) k ≡ false) ps 0 i) → Placed ps k r
+placed_first ps k None h = look_absent ps k (all_from_every (λ p. bytes_eq (key p) k ≡ false) ps h)
+placed_first ps k (Some i) h = (h.0, h.1)
+
+-- a place says whether the reference is there
+pub placed_there : {V : Type 0} (ps : List (Entry V)) (k : List ℕ) (r : Option ℕ) → Placed ps k r → is_some (look ps k) ≡ is_some r
+placed_there ps k None h = ap is_some h
+placed_there [] k (Some i) h = absurd (let lt = h.0 in omega arith)
+placed_there (p ∷ ps) k (Some i) h = look_some (p ∷ ps) k i p h.0 (h.1 p)

@@ -1,9 +1,7 @@
 -- Learning and forgetting in a list of memos with no reference twice.
-use Rattle.std.proofs.Common.{◌≡◌, ℕ, zero, suc, ◌+◌, min, Bool, not, ◌&&◌, T, List, [], ◌∷◌, take, is_some, Some, None, Option, sym, refl, ap, ◌∙◌, inl, inr, arith}
-use Rattle.std.specs.List.{insert}
+use Rattle.std.proofs.Common.{◌≡◌, ℕ, zero, suc, Bool, not, ◌&&◌, T, List, [], ◌∷◌, take, is_some, Some, None, Option, refl, ◌∙◌, inl, inr}
 use Rattle.std.specs.Str.{bytes_eq}
-use Rattle.std.proofs.lemmas.List.{length-take, take_all, take-take}
-use Rattle.std.proofs.lemmas.Bool.{cases_Bool, cases_lt}
+use Rattle.std.proofs.lemmas.Bool.{cases_Bool}
 use Rattle.register.specs.declared.reference.Reference.{Reference}
 use Rattle.register.specs.declared.entry.Entry.{Entry}
 use Rattle.register.specs.Pairs.{key, look, Distinct, forgotten}
@@ -37,9 +35,3 @@ distinct_take (suc n) (m ∷ ms) d = (look_take n ms (key m) d.0, distinct_take 
 
 pub distinct_learnt : (ms : List Memo) (r : Reference) (a : Option ℕ) → Distinct ms → Distinct (learnt ms r a)
 distinct_learnt ms r a d = distinct_take 16 (record { reference = r; value = a } ∷ forgotten ms (spelling r)) (look_forgotten ms (spelling r) (spelling r) ∙ rw (same_refl (spelling r)) refl, distinct_forgotten ms (spelling r) d)
-
--- putting the newest first, where there is room for it or the oldest is dropped
-pub pushed_first : (xs ys ms : List Memo) (u n : ℕ) (r : Reference) (a : Option ℕ) → take u xs ≡ forgotten ms (spelling r) → n ≡ min u 15 → take (n + 1) ys ≡ insert (take n xs) 0 (record { reference = r; value = a }) → take (n + 1) ys ≡ learnt ms r a
-pushed_first xs ys ms u n r a f e is = is ∙ ap (λ l. record { reference = r; value = a } ∷ l) (short ∙ ap (take 15) f) where
-  short : take n xs ≡ take 15 (take u xs)
-  short = elim (cases_lt u 15) [ inl l ↦ (let h : n ≡ u = omega arith in let m = length-take u xs in rw h (sym (take_all 15 (take u xs) (omega arith)))) | inr l ↦ (let h : n ≡ 15 = omega arith in rw h (sym (take-take 15 u xs l))) ]

@@ -1,5 +1,5 @@
 -- The rule of a front: when it answers from memory, when it asks below, and what it remembers and counts. Assumes nothing.
-use Rattle.std.specs.Prelude.{◌≡◌, ℕ, ◌+◌, ◌-◌, min, cond, List, [], take, Some, None, Option, ◌==◌}
+use Rattle.std.specs.Prelude.{◌≡◌, ℕ, ◌+◌, ◌-◌, min, cond, List, [], Some, None, Option, ◌==◌}
 use Rattle.std.specs.List.{AllByRecursion}
 use Rattle.register.specs.declared.reference.Reference.{Reference}
 use Rattle.register.specs.declared.memory.Memory.{Memory}
@@ -15,7 +15,7 @@ use Rattle.register.specs.Spelling.{spelling}
 
 -- what a memory holds, the newest first
 abbrev pub remembered : Memory → List Memo
-remembered m = take m.used m.memos
+remembered m = m.memos.items
 
 -- what a front remembers of a reference, if anything
 abbrev pub recalled : {R : Type 0} → Front R → Reference → Option (Option ℕ)

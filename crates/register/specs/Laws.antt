@@ -1,11 +1,13 @@
--- What both lists show of their used slots. Assumes nothing.
-use Rattle.std.specs.Prelude.{ℕ, ◌≤◌, min, List, length, take}
+-- What slots show of what they hold. Assumes nothing.
+use Rattle.std.specs.Prelude.{◌≤◌, length}
 use Rattle.std.proofs.Common.{arith, length-take}
+use Rattle.register.specs.declared.slots.Slots.{Slots}
+use Rattle.register.specs.Slots.{held, room_in}
 
 -- no more pairs than there is room for
-pub taken_within : {X : Type 0} (used : ℕ) (xs : List X) → used ≤ min (length xs) 1024 → length (take used xs) ≤ min (length xs) 1024
-taken_within used xs h = omega (arith, length-take used xs)
+pub held_within : (s : Slots) → length (held s) ≤ room_in s
+held_within s = let h = s.within in omega (arith, length-take s.used s.slots.now)
 
 -- room for at most 1,024
-pub cut_bounded : (n : ℕ) → min n 1024 ≤ 1024
-cut_bounded n = omega arith
+pub room_bounded : (s : Slots) → room_in s ≤ 1024
+room_bounded s = omega arith

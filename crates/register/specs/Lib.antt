@@ -5,6 +5,7 @@ pub mod Pairs
 pub mod Sets
 pub mod Places
 pub mod Rising
+pub mod Slots
 pub mod Laws
 pub mod Lists
 pub mod Memos

@@ -1,11 +1,11 @@
 -- The texts of references, and how one lies in sixteen bytes. Assumes nothing.
 use Rattle.std.specs.Prelude.{ℕ, ◌-◌, Bool, true, false, cond, ◌&&◌, List, [], ◌∷◌, ◌++◌, length, replicate, ◌==◌, nat_le}
+use Rattle.std.specs.List.{list_all}
 use Rattle.fields.specs.Characters.{set_x}
 
 -- every character is of set x
 abbrev pub all_x : List ℕ → Bool
-all_x [] = true
-all_x (b ∷ bs) = set_x b && all_x bs
+all_x t = list_all set_x t
 
 -- 1 to 16 characters of set x
 abbrev pub is_text : List ℕ → Bool

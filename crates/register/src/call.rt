@@ -2,7 +2,7 @@
 use crate::reference::Reference;
 
 // Why a pair was not entered.
-#[derive(Clone, Copy, PartialEq, Eq)]
+#[derive(Clone, Copy, PartialEq, Eq, Debug)]
 pub enum EnterRefusal {
     AlreadyThere,
     Full,
@@ -17,7 +17,7 @@ pub enum Call {
 }
 
 // A find and a strike answer a number or none, an entering whether it was accepted, and a clearing nothing.
-#[derive(Clone, Copy, PartialEq, Eq)]
+#[derive(Clone, Copy, PartialEq, Eq, Debug)]
 pub enum Answer {
     Number(Option<usize>),
     Verdict(Result<(), EnterRefusal>),

@@ -36,8 +36,7 @@ impl<R> Front<R> {
     pub fn asked(&self) -> u64
         ensures { result ≡ self.now.count }
     {
-        let Front { count, .. } = self;
-        *count
+        self.count
     }
 
     // What the front remembers of `reference`, if anything: its number, or that it has none.

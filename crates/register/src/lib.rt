@@ -11,3 +11,4 @@ pub mod ordered;
 pub mod reference;
 mod row;
 pub mod run;
+mod slots;

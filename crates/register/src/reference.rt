@@ -18,6 +18,7 @@ pub struct Reference {
 
 impl Reference {
     // The reference that spells `text`; none if `text` is not 1 to 16 characters of set x.
+    // Stays an Option, and no TryFrom: there is one way to be no reference, and an error would say no more.
     pub fn new(text: &[u8]) -> Option<Reference>
         ensures { MatchOption result (is_text text.now ≡ false) (λ x. (is_text text.now ≡ true) × (x.bytes ≡ padded text.now) × (unpadded x.bytes ≡ text.now)) }
     {
@@ -25,9 +26,7 @@ impl Reference {
             return None;
         }
         let mut bytes = [0; 16];
-        for (i, b) in text.iter().enumerate() {
-            bytes[i] = *b;
-        }
+        bytes[..text.len()].copy_from_slice(text);
         Some(Reference { bytes })
     }
 
@@ -35,11 +34,10 @@ impl Reference {
     pub fn as_bytes(&self) -> &[u8]
         ensures { (result.now ≡ unpadded self.now.bytes) × (is_text result.now ≡ true) }
     {
-        let mut n = 0;
-        while n < 16 && self.bytes[n] != 0 {
-            n += 1;
+        match self.bytes.iter().position(|b| *b == 0) {
+            Some(n) => &self.bytes[..n],
+            None => &self.bytes,
         }
-        &self.bytes[0..n]
     }
 
     // Whether both spell one text: then they have the same zeros behind it.
@@ -60,9 +58,9 @@ impl Reference {
     pub(crate) fn zero() -> Reference
         ensures { unpadded result.bytes ≡ 48 ∷ [] }
     {
-        Reference {
-            bytes: [b'0', 0, 0, 0, 0, 0, 0, 0, 0, 0, 0, 0, 0, 0, 0, 0],
-        }
+        let mut bytes = [0; 16];
+        bytes[0] = b'0';
+        Reference { bytes }
     }
 }
 
@@ -75,14 +73,10 @@ fn is_text(text: &[u8]) -> bool
 fn all_in_set_x(text: &[u8]) -> bool
     ensures { result ≡ all_x text.now }
 {
-    for b in text {
-        if !in_set_x(*b) {
-            return false;
-        }
-    }
-    true
+    text.iter().all(|b| in_set_x(*b))
 }
 
+// Stays by hand, with the impls below: derives would tell of the padded bytes, and users ask about the texts.
 impl PartialEq for Reference {
     ghost eq = { λ x y. bytes_eq (unpadded x.bytes) (unpadded y.bytes) };
 

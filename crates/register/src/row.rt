@@ -1,42 +1,27 @@
-// A row of entries: finding a place in it, and opening and closing a gap in its used part.
-ghost use Rattle.std.specs.Prelude.{◌≡◌, ◌+◌, ◌-◌, ◌<◌, ◌≤◌, length, take};
-ghost use Rattle.std.specs.List.{insert, remove};
-ghost use Rattle.register.specs.Places.{Placed, Sought, Halved};
+// A row of entries: looking a reference up in it, and finding its place.
+ghost use Rattle.std.specs.Prelude.{◌≡◌, is_some};
+ghost use Rattle.register.specs.Pairs.{look};
+ghost use Rattle.register.specs.Places.{Placed, Sought, Compared};
 ghost use Rattle.register.specs.Spelling.{spelling};
 
 use crate::entry::Entry;
 use crate::reference::Reference;
 use std::cmp::Ordering;
 
-// Puts `x` at the place `at` of the first `used` items, and moves the later ones up.
-pub fn insert_at<T: Copy>(slots: &mut [T], used: usize, at: usize, x: T)
-    requires within { at ≤ used }
-    requires fits { used < length slots.old }
-    ensures { take (used + 1) slots.new ≡ insert (take used slots.old) at x }
+// What stands beside `reference` among `entries`, if anything.
+pub fn look_in<V: Copy>(entries: &[Entry<V>], reference: &Reference) -> Option<V>
+    ensures { result ≡ look entries.now (spelling reference.now) }
 {
-    slots.copy_within(at..used, at + 1);
-    slots[at] = x;
-}
-
-// Takes out what stands at the place `at` of the first `used` items, and moves the later ones down.
-pub fn remove_at<T: Copy>(slots: &mut [T], used: usize, at: usize)
-    requires within { at < used }
-    requires fits { used ≤ length slots.old }
-    ensures { take (used - 1) slots.new ≡ remove (take used slots.old) at }
-{
-    slots.copy_within(at + 1..used, at);
+    let entry = entries.iter().find(|e| e.reference == *reference)?;
+    Some(entry.value)
 }
 
 // Where `reference` stands among `entries`.
 pub fn place_in<V>(entries: &[Entry<V>], reference: &Reference) -> Option<usize>
-    ensures { Placed entries.now (spelling reference.now) result }
+    ensures placed { Placed entries.now (spelling reference.now) result }
+    ensures there { is_some (look entries.now (spelling reference.now)) ≡ is_some result }
 {
-    for (i, e) in entries.iter().enumerate() {
-        if e.reference == *reference {
-            return Some(i);
-        }
-    }
-    None
+    entries.iter().position(|e| e.reference == *reference)
 }
 
 // What a search by halving found, and how many entries it compared with what it sought.
@@ -49,8 +34,9 @@ pub struct Search {
 // Where `reference` stands among ascending `entries`, or where it would.
 pub fn search_in<V>(entries: &[Entry<V>], reference: &Reference) -> Search
     ensures sought { Sought entries.now (spelling reference.now) result.place }
-    ensures halved { Halved (length entries.now) result.place result.compared }
+    ensures compared { Compared entries.now (spelling reference.now) result.compared }
 {
+    // Stays a loop: it counts, and the library's `binary_search_by` does not say how often it compares.
     let mut low = 0;
     let mut high = entries.len();
     let mut compared = 0;

@@ -35,6 +35,7 @@ pub fn carry_out<R: Register>(register: &mut R, calls: &[Call], answers: &mut [A
     ensures { Carried R.Register.pairs R.Register.room R.Register.ordered R.Register.rule register.old calls.now answers.old result answers.new register.new }
 {
     let count = answerable(calls, answers);
+    // Stays an index: over `calls.iter().zip(answers.iter_mut())` nothing is known after the loop of what it wrote.
     for i in 0..count {
         answers[i] = answer(register, calls[i]);
     }

@@ -7,6 +7,7 @@ use register::front::Front;
 use register::interface::Register;
 use register::ordered::OrderedList;
 use register::reference::Reference;
+use std::fmt;
 
 #[derive(Drop)]
 pub struct Costs {
@@ -17,6 +18,19 @@ pub struct Costs {
     // the same find through a front, and again once it is remembered
     pub first: usize,
     pub again: usize,
+}
+
+// Its columns of the table.
+impl fmt::Display for Costs {
+    fn fmt<W: fmt::Write>(&self, f: &mut fmt::Formatter<W>) -> fmt::Result {
+        let Costs {
+            most,
+            missing,
+            first,
+            again,
+        } = self;
+        write!(f, "{most:>16}  {missing:>17}  {first:>15}  {again:>5}")
+    }
 }
 
 // The references R0000 to R9999.
@@ -41,13 +55,11 @@ fn fill<R: Register>(register: &mut R, size: usize) {
 }
 
 fn most_compared(list: &OrderedList<'_>, size: usize) -> usize {
-    let mut most = 0;
-    for i in 0..size {
-        if let Some(reference) = numbered(i) {
-            most = list.comparisons(&reference).max(most);
-        }
-    }
-    most
+    (0..size)
+        .filter_map(numbered)
+        .map(|reference| list.comparisons(&reference))
+        .max()
+        .unwrap_or(0)
 }
 
 // How many pairs of the list are compared in a find through its front: none if that is answered from memory.
@@ -60,28 +72,21 @@ fn cost(front: &mut Front<OrderedList<'_>>, reference: &Reference) -> usize
     if front.asked() == asked { 0 } else { compared }
 }
 
-pub fn count_list(size: usize) -> Costs {
+pub fn count_list(size: usize) -> Option<Costs> {
     let mut slots = [unused_slot(); 1024];
     let size = size.min(1024);
     let mut list = OrderedList::new(&mut slots[0..size]);
     fill(&mut list, size);
     let most = most_compared(&list, size);
-    let Some(last) = numbered(9999) else {
-        return Costs {
-            most,
-            missing: 0,
-            first: 0,
-            again: 0,
-        };
-    };
+    let last = numbered(9999)?;
     let missing = list.comparisons(&last);
     let mut front = Front::new(list);
     let first = cost(&mut front, &last);
     let again = cost(&mut front, &last);
-    Costs {
+    Some(Costs {
         most,
         missing,
         first,
         again,
-    }
+    })
 }

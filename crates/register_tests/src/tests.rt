@@ -7,14 +7,12 @@ use register::interface::Register;
 use register::ordered::OrderedList;
 use register::reference::Reference;
 use register::run::carry_out;
+use std::ops::Range;
 use std::process::Abort;
 use std::test::Fail;
 
 fn reference(text: &[u8]) -> Result<Reference, Fail> {
-    match Reference::new(text) {
-        Some(r) => Ok(r),
-        None => Err(Fail::new("no reference")),
-    }
+    Reference::new(text).ok_or_else(|| Fail::new("no reference"))
 }
 
 #[test]
@@ -51,7 +49,7 @@ fn scripted<R: Register>(rt: &impl Abort, register: &mut R) -> Result<(), Fail> 
     for (call, expected) in script {
         let mut answers = [Answer::Cleared];
         let _ = carry_out(register, &[call], &mut answers);
-        assert!(rt; answers[0] == expected);
+        assert_eq!(rt; answers[0], expected);
     }
     Ok(())
 }
@@ -82,26 +80,21 @@ fn behind_two_fronts(rt: HostRuntime) -> Result<(), Fail> {
 }
 
 // How many of the references with these numbers a front remembers.
-fn remembered<R>(front: &Front<R>, from: usize, to: usize) -> usize {
-    let mut count: usize = 0;
-    for i in from..to {
-        if let Some(reference) = numbered(i) {
-            count = count.saturating_add(front.remembers(&reference).is_some() as usize);
-        }
-    }
-    count
+fn remembered<R>(front: &Front<R>, numbers: Range<usize>) -> usize {
+    numbers
+        .filter_map(numbered)
+        .filter(|reference| front.remembers(reference).is_some())
+        .count()
 }
 
 #[test]
 fn a_seventeenth_puts_out_the_oldest(rt: HostRuntime) {
     let mut slots = [unused_slot(); 0];
     let mut front = Front::new(OrderedList::new(&mut slots));
-    for i in 0..17 {
-        if let Some(reference) = numbered(i) {
-            let _ = front.find(&reference);
-        }
+    for reference in (0..17).filter_map(numbered) {
+        let _ = front.find(&reference);
     }
     assert!(rt; front.asked() == 17);
-    assert!(rt; remembered(&front, 0, 1) == 0);
-    assert!(rt; remembered(&front, 1, 17) == 16);
+    assert!(rt; remembered(&front, 0..1) == 0);
+    assert!(rt; remembered(&front, 1..17) == 16);
 }

@@ -3,7 +3,7 @@ use Rattle.std.proofs.Common.{◌≡◌, ℕ, ◌<◌, Bool, true, false, cond, 
 use Rattle.std.proofs.lemmas.Bool.{ltb-true, and_parts, cases_Bool, cond-true, cond-false, both_ways}
 use Rattle.fields.specs.declared.walk.Field.{Field as TextField}
 use Rattle.fields.specs.Fields.{fields}
-use Rattle.sheet.specs.declared.rows.Row.{Row}
+use Rattle.sheet.specs.Rows.{Row}
 use Rattle.sheet.specs.Sentences.{IsSentence}
 use Rattle.sheet.specs.Steps.{follows, may_end, Walks, Reads}
 use Rattle.sheet.specs.Keys.{Key, key_of, keys_of, find_row}

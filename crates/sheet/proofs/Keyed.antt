@@ -2,13 +2,12 @@
 use Rattle.std.proofs.Common.{◌≡◌, ℕ, zero, suc, ◌+◌, ◌<◌, ◌≤◌, true, not, ◌&&◌, eqb, leb, ◌⊎◌, List, [], ◌∷◌, map, length, Some, None, Option, sym, refl, ap, ◌∙◌, ap₂, inl, inr, arith}
 use Rattle.std.proofs.lemmas.Bool.{eqb-true, eq-eqb, and_parts, and_from, or_cases, or_left, or_right, not-true, both_ways, false≢true, cases_Bool, cond-true, cond-false, leb-true}
 use Rattle.std.proofs.lemmas.Slice.Eq.{bytes_eq-Decides}
-use Rattle.std.specs.List.{slice_get}
+use Rattle.std.specs.List.{slice_get, position_from}
 use Rattle.fields.specs.declared.headers.Tag.{Tag}
 use Rattle.fields.specs.declared.headers.Qualifier.{Qualifier}
-use Rattle.sheet.specs.declared.rows.Row.{Row}
-use Rattle.sheet.specs.declared.rows.Row.TheVariants.{Open, Close, Field}
-use Rattle.sheet.specs.Rows.{name_of, qualifiers_of, is_tag, is_qualifier, among, admits}
-use Rattle.sheet.specs.Keys.{Key, row_has, find_from, find_row}
+use Rattle.sheet.specs.Rows.{Row, is_tag, is_qualifier, among, admits}
+use Rattle.sheet.specs.Rows.Row.{Open, Close, Field}
+use Rattle.sheet.specs.Keys.{Key, row_has, find_row}
 use Rattle.sheet.specs.Keys.Key.{opens, closes, names}
 use Rattle.sheet.specs.Lawful.{paired, under, field_keys, keys_in, has_one, used, apart, possible, all_possible, rows_possible, lawful}
 use Rattle.sheet.specs.Sentences.{IsSentence}
@@ -84,17 +83,17 @@ in_field t (x ∷ qs) (Some q) h = in_under t q (x ∷ qs) h
 
 -- a row has its keys
 in_row : (r : Row) (k : Key) → row_has r k ≡ true → In k (keys_in r)
-in_row (Open m n) (opens v) h = let e = (bytes_eq-Decides (name_of n) v).0 h in inl (cc)
+in_row (Open m n) (opens v) h = let e = (bytes_eq-Decides n v).0 h in inl (cc)
 in_row (Open m n) (closes v) h = absurd (false≢true h)
 in_row (Open m n) (names t q) h = absurd (false≢true h)
 in_row (Close n) (opens v) h = absurd (false≢true h)
-in_row (Close n) (closes v) h = let e = (bytes_eq-Decides (name_of n) v).0 h in inl (cc)
+in_row (Close n) (closes v) h = let e = (bytes_eq-Decides n v).0 h in inl (cc)
 in_row (Close n) (names t q) h = absurd (false≢true h)
 in_row (Field f) (opens v) h = absurd (false≢true h)
 in_row (Field f) (closes v) h = absurd (false≢true h)
 in_row (Field f) (names t q) h =
-    let p = and_parts (is_tag t f.tag) (admits (qualifiers_of f.qualifiers) q) h in
-    rw (tag_same t f.tag p.0) (in_field f.tag (qualifiers_of f.qualifiers) q p.1)
+    let p = and_parts (is_tag t f.tag) (admits f.qualifiers q) h in
+    rw (tag_same t f.tag p.0) (in_field f.tag f.qualifiers q p.1)
 
 -- and one of them is there
 first_key : (t : Tag) (qs : List Qualifier) → (o : Option Qualifier) × (admits qs o ≡ true) × In (names t o) (field_keys t qs)
@@ -102,10 +101,10 @@ first_key t [] = (None, refl, inl refl)
 first_key t (q ∷ qs) = (Some q, or_left _ _ (qualifier_self q), inl refl)
 
 some_key : (r : Row) → (k : Key) × (row_has r k ≡ true) × In k (keys_in r)
-some_key (Open m n) = (opens (name_of n), (bytes_eq-Decides (name_of n) (name_of n)).1 refl, inl refl)
-some_key (Close n) = (closes (name_of n), (bytes_eq-Decides (name_of n) (name_of n)).1 refl, inl refl)
+some_key (Open m n) = (opens n, (bytes_eq-Decides n n).1 refl, inl refl)
+some_key (Close n) = (closes n, (bytes_eq-Decides n n).1 refl, inl refl)
 some_key (Field f) =
-    let k = first_key f.tag (qualifiers_of f.qualifiers) in
+    let k = first_key f.tag f.qualifiers in
     (names f.tag k.0, and_from _ _ (tag_self f.tag) k.1, k.2)
 
 -- what is in two rows
@@ -123,21 +122,25 @@ used_by (x ∷ rows) ks zero r k i e h =
 used_by (x ∷ rows) ks (suc j) r k i e h = or_right (has_one x ks) (used ks rows) (used_by rows ks j r k i e h)
 
 -- a row that has the key is the one that is found
+-- the search from number n
+abbrev find_from : List Row → Key → ℕ → Option ℕ
+find_from rows key n = position_from (λ r. row_has r key) n rows
+
 found_from : (rows : List Row) (key : Key) (n i : ℕ) → apart rows ≡ true → RowAt rows i key → find_from rows key n ≡ Some (n + i)
 found_from [] key n zero a (r, e, h) = nothing cc
 found_from [] key n (suc i) a (r, e, h) = nothing cc
 found_from (x ∷ rows) key n zero a (r, e, h) =
     let s : x ≡ r = cc in
     let q : n ≡ n + 0 = omega arith in
-    cond-true (row_has x key) (Some n) (find_from rows key (suc n)) (ap (λ (y : Row). row_has y key) s ∙ h) ∙ ap {B = Option ℕ} Some q
+    cond-true (row_has x key) (Some n) (find_from rows key (n + 1)) (ap (λ (y : Row). row_has y key) s ∙ h) ∙ ap {B = Option ℕ} Some q
 found_from (x ∷ rows) key n (suc i) a (r, e, h) =
     let p = and_parts (not (used (keys_in x) rows)) (apart rows) a in
-    let q : suc n + i ≡ n + suc i = omega arith in
+    let q : n + 1 + i ≡ n + suc i = omega arith in
     elim (cases_Bool (row_has x key)) [
       | inl t ↦ absurd (both_ways (used (keys_in x) rows) (not-true _ p.0) (used_by rows (keys_in x) i r key (in_row x key t) e h))
       | inr t ↦
-          cond-false (row_has x key) (Some n) (find_from rows key (suc n)) t
-          ∙ found_from rows key (suc n) i p.1 (r, e, h) ∙ ap {B = Option ℕ} Some q
+          cond-false (row_has x key) (Some n) (find_from rows key (n + 1)) t
+          ∙ found_from rows key (n + 1) i p.1 (r, e, h) ∙ ap {B = Option ℕ} Some q
     ]
 
 pub only_row : (rows : List Row) → lawful rows ≡ true → (key : Key) (i : ℕ) → RowAt rows i key → find_row rows key ≡ Some i
@@ -149,12 +152,12 @@ has_from : (rows : List Row) (key : Key) (n j : ℕ) → find_from rows key n �
 has_from [] key n j e = nothing cc
 has_from (x ∷ rows) key n j e = elim (cases_Bool (row_has x key)) [
   | inl t ↦
-      let s = cond-true (row_has x key) (Some n) (find_from rows key (suc n)) t in
+      let s = cond-true (row_has x key) (Some n) (find_from rows key (n + 1)) t in
       let q : j ≡ n = cc in
       (0, omega arith, (x, refl, t))
   | inr t ↦
-      let s = cond-false (row_has x key) (Some n) (find_from rows key (suc n)) t in
-      let i = has_from rows key (suc n) j (sym s ∙ e) in
+      let s = cond-false (row_has x key) (Some n) (find_from rows key (n + 1)) t in
+      let i = has_from rows key (n + 1) j (sym s ∙ e) in
       (suc i.0, omega (arith, i.1), i.2)
 ]
 

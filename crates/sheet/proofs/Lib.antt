@@ -3,7 +3,8 @@ pub mod Meaning
 pub mod Reading
 pub mod Scans
 pub mod Keyed
-pub mod Finding
+pub mod Walking
+pub mod Searches
 pub mod Judging
 pub mod Alone
 pub mod Testing

@@ -1,7 +1,7 @@
 -- Rows lay out one sheet. Assumes nothing.
 use Rattle.std.proofs.Common.{◌≡◌, ℕ, List, [], ◌∷◌, sym, refl, subst, arith}
-use Rattle.sheet.specs.declared.rows.Row.{Row}
-use Rattle.sheet.specs.declared.rows.Row.TheVariants.{Open, Close, Field}
+use Rattle.sheet.specs.Rows.{Row}
+use Rattle.sheet.specs.Rows.Row.{Open, Close, Field}
 use Rattle.sheet.specs.Sentences.{Parts, laid}
 use Rattle.sheet.specs.Sentences.Parts.{end, line, block}
 

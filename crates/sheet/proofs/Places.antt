@@ -2,10 +2,8 @@
 use Rattle.std.proofs.Common.{◌≡◌, ℕ, zero, suc, ◌+◌, ◌<◌, ◌≤◌, true, eqb, ◌⊎◌, List, [], ◌∷◌, length, drop, sym, refl, ap, ◌∙◌, inl, inr, arith}
 use Rattle.std.proofs.lemmas.Bool.{eqb-true, and_parts, false≢true, cases_order}
 use Rattle.sheet.specs.declared.marks.Mark.{Mark}
-use Rattle.sheet.specs.declared.rows.BlockName.{BlockName}
-use Rattle.sheet.specs.declared.rows.FieldRow.{FieldRow}
-use Rattle.sheet.specs.declared.rows.Row.{Row}
-use Rattle.sheet.specs.declared.rows.Row.TheVariants.{Open, Close, Field}
+use Rattle.sheet.specs.Rows.{FieldRow, Row}
+use Rattle.sheet.specs.Rows.Row.{Open, Close, Field}
 use Rattle.sheet.specs.Sentences.{Parts, laid, past}
 use Rattle.sheet.specs.Sentences.Parts.{end, line, block}
 use Rattle.sheet.specs.Marks.{may_repeat}
@@ -97,13 +95,13 @@ module _ (rows : List Row) where
   apart (Field fr ∷ rs) d c k e h f g = apart rs d c (suc k) (drop_next rows k _ _ e) h f g
 
   -- a block that begins before row k, which opens one, and ends behind k, has that one in it
-  around_here : (rs : List Row) (d j k e : ℕ) (m : Mark) (nm : BlockName) (t : List Row) → drop j rows ≡ rs → drop k rows ≡ Open m nm ∷ t → closing d rs j ≡ e
+  around_here : (rs : List Row) (d j k e : ℕ) (m : Mark) (nm : List ℕ) (t : List Row) → drop j rows ≡ rs → drop k rows ≡ Open m nm ∷ t → closing d rs j ≡ e
       → j ≡ k → (c : ℕ) × (closing (suc c) t (suc k) ≡ e)
   around_here rs d j k e m nm t f g q s =
       let same : rs ≡ Open m nm ∷ t = sym f ∙ ap (λ (i : ℕ). drop i rows) s ∙ g in
       (d, rw (← s) (sym (ap (λ (l : List Row). closing d l j) same) ∙ q))
 
-  around : (rs : List Row) (d j k e : ℕ) (m : Mark) (nm : BlockName) (t : List Row) → drop j rows ≡ rs → drop k rows ≡ Open m nm ∷ t → k < e → closing d rs j ≡ e
+  around : (rs : List Row) (d j k e : ℕ) (m : Mark) (nm : List ℕ) (t : List Row) → drop j rows ≡ rs → drop k rows ≡ Open m nm ∷ t → k < e → closing d rs j ≡ e
       → (j ≡ k) ⊎ (j < k) → (c : ℕ) × (closing (suc c) t (suc k) ≡ e)
   around [] d j k e m nm t f g u q (inl s) = around_here [] d j k e m nm t f g q s
   around [] d j k e m nm t f g u q (inr l) = absurd (no_cons _ _ (sym (drop_empty rows j k (omega arith) f) ∙ g))
@@ -117,7 +115,7 @@ module _ (rows : List Row) where
   around (Field fr ∷ rs) d j k e m nm t f g u q (inr l) = around rs d (suc j) k e m nm t (drop_next rows j _ _ f) g u q (up_to j k l)
 
   -- so of two blocks that one row closes, neither begins before the other
-  not_before : (j k e : ℕ) (m m' : Mark) (nm nm' : BlockName) (s t : List Row) → drop j rows ≡ Open m' nm' ∷ s → drop k rows ≡ Open m nm ∷ t
+  not_before : (j k e : ℕ) (m m' : Mark) (nm nm' : List ℕ) (s t : List Row) → drop j rows ≡ Open m' nm' ∷ s → drop k rows ≡ Open m nm ∷ t
       → closing zero s (suc j) ≡ e → closing zero t (suc k) ≡ e → kind (drop e rows) ≡ 2 → j < k → ⊥
   not_before j k e m m' nm nm' s t f g p q r l =
       let up : suc k ≤ closing zero t (suc k) = closing_up zero t (suc k) in
@@ -129,7 +127,7 @@ module _ (rows : List Row) where
   Returns : ℕ → ℕ → Type 0
   Returns last y =
       ((fr : FieldRow) × (t : List Row) × (drop y rows ≡ Field fr ∷ t) × (y ≡ last) × (may_repeat fr.mark ≡ true))
-      ⊎ ((m : Mark) × (nm : BlockName) × (t : List Row) × (drop y rows ≡ Open m nm ∷ t) × (closing zero t (suc y) ≡ last) × (may_repeat m ≡ true)
+      ⊎ ((m : Mark) × (nm : List ℕ) × (t : List Row) × (drop y rows ≡ Open m nm ∷ t) × (closing zero t (suc y) ≡ last) × (may_repeat m ≡ true)
       × ((kind (drop last rows) ≡ 0) ⊎ (kind (drop last rows) ≡ 2)))
 
   returns : (last y : ℕ) → again rows last y ≡ true → Returns last y
@@ -162,7 +160,7 @@ module _ (rows : List Row) where
       ]
 
   -- an opening row ends nothing
-  pub again_open : (k y : ℕ) (m : Mark) (nm : BlockName) (t : List Row) → drop k rows ≡ Open m nm ∷ t → again rows k y ≡ true → ⊥
+  pub again_open : (k y : ℕ) (m : Mark) (nm : List ℕ) (t : List Row) → drop k rows ≡ Open m nm ∷ t → again rows k y ≡ true → ⊥
   unfolding Returns
   again_open k y m nm t f h =
       let a = ap kind f in
@@ -172,7 +170,7 @@ module _ (rows : List Row) where
       ]
 
   -- a closing row ends the block that it closes
-  pub again_block : (k y e : ℕ) (m : Mark) (nm cl : BlockName) (t s : List Row) → drop k rows ≡ Open m nm ∷ t → closing zero t (suc k) ≡ e → drop e rows ≡ Close cl ∷ s
+  pub again_block : (k y e : ℕ) (m : Mark) (nm cl : List ℕ) (t s : List Row) → drop k rows ≡ Open m nm ∷ t → closing zero t (suc k) ≡ e → drop e rows ≡ Close cl ∷ s
       → again rows e y ≡ true → (y ≡ k) × (may_repeat m ≡ true)
   unfolding Returns
   again_block k y e m nm cl t s f q g h =

@@ -4,12 +4,9 @@ use lib.Seq.{drop-length}
 use Rattle.std.proofs.lemmas.Bool.{eqb-true, eq-eqb, ltb-true, lt-ltb, and_parts, and_from, or_cases, or_left, or_right, false≢true}
 use Rattle.sheet.specs.declared.marks.Mark.{Mark}
 use Rattle.sheet.specs.declared.marks.Mark.TheVariants.{Once, AtMostOnce, AtLeastOnce, AnyNumber}
-use Rattle.sheet.specs.declared.rows.BlockName.{BlockName}
-use Rattle.sheet.specs.declared.rows.FieldRow.{FieldRow}
-use Rattle.sheet.specs.declared.rows.Row.{Row}
-use Rattle.sheet.specs.declared.rows.Row.TheVariants.{Open, Close, Field}
+use Rattle.sheet.specs.Rows.{FieldRow, Row}
+use Rattle.sheet.specs.Rows.Row.{Open, Close, Field}
 use Rattle.sheet.specs.Marks.{Allows, may_miss, may_repeat}
-use Rattle.sheet.specs.Rows.{name_of}
 use Rattle.sheet.specs.Sentences.{Parts, laid, past, Times, Sentence, IsSentence}
 use Rattle.sheet.specs.Sentences.Parts.{end, line, block}
 use Rattle.sheet.specs.Steps.{reach, scan, again, step, Walks, Reads}
@@ -218,7 +215,7 @@ module _ (rows : List Row) where
         out = λ x p. ([], p, λ z a. a);
       }
 
-  block_part : (k : ℕ) (m : Mark) (n : BlockName) (inner : Parts) (cl : BlockName) (t : List Row) → drop k rows ≡ Open m n ∷ laid inner (Close cl ∷ t)
+  block_part : (k : ℕ) (m : Mark) (n : List ℕ) (inner : Parts) (cl : List ℕ) (t : List Row) → drop k rows ≡ Open m n ∷ laid inner (Close cl ∷ t)
       → Sound inner (suc k) → Complete inner (suc k)
       → Part k (past inner (suc k)) m (λ x. (b : List ℕ) × (x ≡ k ∷ (b ++ past inner (suc k) ∷ [])) × Sentence inner (suc k) b)
   block_part k m n inner cl t d s c =
@@ -380,22 +377,22 @@ module _ (rows : List Row) where
 abbrev Layers : ℕ → List (List ℕ) → List Row → Type 0
 Layers more [] rs = (p : Parts) × (rs ≡ laid p []) × Nested more p
 Layers more (o ∷ os) rs =
-    (p : Parts) × (c : BlockName) × (t : List Row) × (rs ≡ laid p (Close c ∷ t)) × Nested more p × (o ≡ name_of c) × Layers (suc more) os t
+    (p : Parts) × (c : List ℕ) × (t : List Row) × (rs ≡ laid p (Close c ∷ t)) × Nested more p × (o ≡ c) × Layers (suc more) os t
 
 layers : (rs : List Row) (os : List (List ℕ)) (more : ℕ) → more + length os ≡ 4 → paired os rs ≡ true → Layers more os rs
 layers [] [] more q h = (end, refl, tt)
 layers [] (o ∷ os) more q h = absurd (false≢true h)
 layers (Open m n ∷ rs) [] zero q h = absurd (omega arith)
 layers (Open m n ∷ rs) [] (suc more) q h =
-    let i = layers rs (name_of n ∷ []) more (omega arith) h in
+    let i = layers rs (n ∷ []) more (omega arith) h in
     let j = i.6 in (
       block m n i.0 i.1 j.0,
       ap {B = List Row} (λ l. Open m n ∷ l) (i.3 ∙ ap (λ (l : List Row). laid i.0 (Close i.1 ∷ l)) j.1),
       (i.5, i.4, j.2),
     )
-layers (Open m n ∷ rs) (o ∷ os) zero q h = absurd (omega (arith, ltb-true _ _ (and_parts (ltb (length (o ∷ os)) 4) (paired (name_of n ∷ (o ∷ os)) rs) h).0))
+layers (Open m n ∷ rs) (o ∷ os) zero q h = absurd (omega (arith, ltb-true _ _ (and_parts (ltb (length (o ∷ os)) 4) (paired (n ∷ (o ∷ os)) rs) h).0))
 layers (Open m n ∷ rs) (o ∷ os) (suc more) q h =
-    let i = layers rs (name_of n ∷ (o ∷ os)) more (omega arith) (and_parts (ltb (length (o ∷ os)) 4) (paired (name_of n ∷ (o ∷ os)) rs) h).1 in
+    let i = layers rs (n ∷ (o ∷ os)) more (omega arith) (and_parts (ltb (length (o ∷ os)) 4) (paired (n ∷ (o ∷ os)) rs) h).1 in
     let j = i.6 in (
       block m n i.0 i.1 j.0,
       j.1,
@@ -407,8 +404,8 @@ layers (Open m n ∷ rs) (o ∷ os) (suc more) q h =
     )
 layers (Close n ∷ rs) [] more q h = absurd (false≢true h)
 layers (Close n ∷ rs) (o ∷ os) more q h =
-    let a = and_parts (bytes_eq o (name_of n)) (paired os rs) h in
-    (end, n, rs, refl, tt, (bytes_eq-Decides o (name_of n)).0 a.0, layers rs os (suc more) (omega arith) a.1)
+    let a = and_parts (bytes_eq o n) (paired os rs) h in
+    (end, n, rs, refl, tt, (bytes_eq-Decides o n).0 a.0, layers rs os (suc more) (omega arith) a.1)
 layers (Field f ∷ rs) [] more q h =
     let i = layers rs [] more q h in (line f i.0, ap {B = List Row} (λ l. Field f ∷ l) i.1, i.2)
 layers (Field f ∷ rs) (o ∷ os) more q h =

@@ -1,135 +1,56 @@
 -- What one row tells a loop over a sheet's rows. Assumes nothing.
-use Rattle.std.proofs.Common.{◌≡◌, ℕ, zero, suc, ◌+◌, ◌<◌, ◌≤◌, Bool, true, false, cond, ◌&&◌, ◌||◌, eqb, List, [], ◌∷◌, length, drop, Some, None, Option, sym, refl, ap, ◌∙◌, ap₂, add-one, arith}
-use Rattle.std.proofs.lemmas.Bool.{ne_eqb, eq-eqb, or_left, lt-ltb}
+use Rattle.std.proofs.Common.{◌≡◌, ℕ, zero, suc, ◌+◌, ◌<◌, ◌≤◌, Bool, true, false, ◌&&◌, ◌||◌, eqb, List, [], ◌∷◌, length, drop, Some, None, Option, sym, refl, ap, ◌∙◌, ap₂, add-one, inl, inr, drop-cons, drop_of_length-le}
+use Rattle.std.proofs.lemmas.Bool.{or_left, lt-ltb}
+use Rattle.std.proofs.lemmas.Option.{slice_get_within, slice_get_cases, get_or_from_slice_get}
 use Rattle.std.specs.List.{slice_get}
-use Rattle.sheet.specs.declared.marks.Mark.{Mark}
-use Rattle.sheet.specs.declared.rows.BlockName.{BlockName}
-use Rattle.sheet.specs.declared.rows.FieldRow.{FieldRow}
-use Rattle.sheet.specs.declared.rows.Row.{Row}
-use Rattle.sheet.specs.declared.rows.Row.TheVariants.{Open, Close, Field}
-use Rattle.sheet.specs.Marks.{may_miss}
-use Rattle.sheet.specs.Steps.{closing, ends, repeats, reach, passing, scan, again, follows, may_end}
+use Rattle.sheet.specs.Rows.{Row}
+use Rattle.sheet.specs.Rows.Row.{Open, Close, Field}
+use Rattle.sheet.specs.Marks.{may_repeat}
+use Rattle.sheet.specs.Steps.{closing, ends, repeats, scan, again, follows, may_end}
 
-pub at_row : (rows : List Row) (i : ℕ) (r : Row) → Some r ≡ slice_get rows i → drop i rows ≡ r ∷ drop (suc i) rows
-at_row [] zero r e = let z : ◌≡◌ {A = ℕ} 0 1 = cc in absurd (omega arith)
-at_row [] (suc i) r e = let z : ◌≡◌ {A = ℕ} 0 1 = cc in absurd (omega arith)
-at_row (x ∷ rows) zero r e = cc
-at_row (x ∷ rows) (suc i) r e = at_row rows i r e
+module _ (rows : List Row) (i : ℕ) where
+  pub row_within : (r : Row) → Some r ≡ slice_get rows i → i < length rows
+  row_within r e = slice_get_within rows i r (sym e)
 
-pub row_within : (rows : List Row) (i : ℕ) (r : Row) → Some r ≡ slice_get rows i → i < length rows
-row_within [] zero r e = let z : ◌≡◌ {A = ℕ} 0 1 = cc in absurd (omega arith)
-row_within [] (suc i) r e = let z : ◌≡◌ {A = ℕ} 0 1 = cc in absurd (omega arith)
-row_within (x ∷ rows) zero r e = omega arith
-row_within (x ∷ rows) (suc i) r e = let h = row_within rows i r e in omega arith
+  pub rows_within : None ≡ slice_get rows i → length rows ≤ i
+  rows_within e = elim (slice_get_cases rows i).1 [ inl r ↦ absurd (cc (e, r.2)) | inr o ↦ o.0 ]
 
-pub past_rows : (rows : List Row) (i : ℕ) → None ≡ slice_get rows i → drop i rows ≡ []
-past_rows [] zero e = refl
-past_rows [] (suc i) e = refl
-past_rows (x ∷ rows) zero e = let z : ◌≡◌ {A = ℕ} 0 1 = cc in absurd (omega arith)
-past_rows (x ∷ rows) (suc i) e = past_rows rows i e
+  pub at_row : (r : Row) → Some r ≡ slice_get rows i → drop i rows ≡ r ∷ drop (suc i) rows
+  at_row r e = drop-cons rows i r (row_within r e) ∙ ap (λ (x : Row). x ∷ drop (suc i) rows) (get_or_from_slice_get rows i r r (sym e))
 
-module _ (rows : List Row) where
-  -- a part's last row, and whether it may stand again
-  pub ends_off : (i : ℕ) → None ≡ slice_get rows i → i ≡ ends (drop i rows) i
-  ends_off i e = sym (ap (λ (l : List Row). ends l i) (past_rows rows i e))
+  pub past_rows : None ≡ slice_get rows i → drop i rows ≡ []
+  past_rows e = drop_of_length-le rows (rows_within e)
 
-  pub ends_at : (i : ℕ) (r s : Row) → Some r ≡ slice_get rows i → r ≡ s → ends (s ∷ drop (suc i) rows) i ≡ ends (drop i rows) i
-  ends_at i r s e k = sym (ap (λ (l : List Row). ends l i) (at_row rows i r e) ∙ ap (λ (x : Row). ends (x ∷ drop (suc i) rows) i) k)
+-- what the row at a number says of the part that begins there
+abbrev repeats_by : Option Row → Bool
+repeats_by None = false
+repeats_by (Some (Open m n)) = may_repeat m
+repeats_by (Some (Close n)) = false
+repeats_by (Some (Field f)) = may_repeat f.mark
 
-  pub ends_block : (i : ℕ) (r : Row) (m : Mark) (n : BlockName) → Some r ≡ slice_get rows i → r ≡ Open m n
-      → closing zero (drop (i + 1) rows) (i + 1) ≡ ends (drop i rows) i
-  ends_block i r m n e k = rw add-one (ends_at i r (Open m n) e k)
+abbrev ends_by : List Row → ℕ → Option Row → ℕ
+ends_by rows i None = i
+ends_by rows i (Some (Open m n)) = closing zero (drop (i + 1) rows) (i + 1)
+ends_by rows i (Some (Close n)) = i
+ends_by rows i (Some (Field f)) = i
 
-  pub repeats_at : (i : ℕ) (r s : Row) → Some r ≡ slice_get rows i → r ≡ s → repeats (s ∷ drop (suc i) rows) ≡ repeats (drop i rows)
-  repeats_at i r s e k = sym (ap repeats (at_row rows i r e) ∙ ap (λ (x : Row). repeats (x ∷ drop (suc i) rows)) k)
-
-  pub repeats_off : (i : ℕ) → None ≡ slice_get rows i → false ≡ repeats (drop i rows)
-  repeats_off i e = sym (ap repeats (past_rows rows i e))
-
-  -- the closing row's number, one row on
-  pub closing_off : (d i : ℕ) → None ≡ slice_get rows i → closing d (drop i rows) i ≡ i
-  closing_off d i e = ap (λ (l : List Row). closing d l i) (past_rows rows i e)
-
-  closing_on : (d i : ℕ) (r : Row) (c : ℕ) → Some r ≡ slice_get rows i
-      → closing d (r ∷ drop (suc i) rows) i ≡ closing c (drop (suc i) rows) (suc i) → closing d (drop i rows) i ≡ closing c (drop (i + 1) rows) (i + 1)
-  closing_on d i r c e q = rw add-one (ap (λ (l : List Row). closing d l i) (at_row rows i r e) ∙ q)
-
-  pub closing_open : (d i : ℕ) (r : Row) (m : Mark) (n : BlockName) (c : ℕ) → Some r ≡ slice_get rows i → r ≡ Open m n → c ≡ d + 1
-      → closing d (drop i rows) i ≡ closing c (drop (i + 1) rows) (i + 1)
-  closing_open d i r m n c e k q = closing_on d i r c e (rw (k, q, add-one) refl)
-
-  pub closing_close : (d i : ℕ) (r : Row) (n : BlockName) (c : ℕ) → Some r ≡ slice_get rows i → r ≡ Close n → d ≡ suc c
-      → closing d (drop i rows) i ≡ closing c (drop (i + 1) rows) (i + 1)
-  closing_close d i r n c e k q = closing_on d i r c e (rw (k, q) refl)
-
-  pub closing_field : (d i : ℕ) (r : Row) (f : FieldRow) (c : ℕ) → Some r ≡ slice_get rows i → r ≡ Field f → c ≡ d
-      → closing d (drop i rows) i ≡ closing c (drop (i + 1) rows) (i + 1)
-  closing_field d i r f c e k q = closing_on d i r c e (rw (k, q) refl)
-
-  pub closing_here : (d i : ℕ) (r : Row) (n : BlockName) → Some r ≡ slice_get rows i → r ≡ Close n → d ≡ 0 → closing d (drop i rows) i ≡ i
-  closing_here d i r n e k q = ap (λ (l : List Row). closing d l i) (at_row rows i r e) ∙ rw (k, q) refl
-
-  -- the search for a row
-  pub reach_off : (d i x : ℕ) → None ≡ slice_get rows i → reach d (drop i rows) i x ≡ eqb i x
-  reach_off d i x e = ap (λ (l : List Row). reach d l i x) (past_rows rows i e)
-
-  reach_at : (d i x : ℕ) (r : Row) → Some r ≡ slice_get rows i → reach d (drop i rows) i x ≡ reach d (r ∷ drop (suc i) rows) i x
-  reach_at d i x r e = ap (λ (l : List Row). reach d l i x) (at_row rows i r e)
-
-  pub reach_found : (d i x : ℕ) (r : Row) → Some r ≡ slice_get rows i → d ≡ 0 → i ≡ x → reach d (drop i rows) i x ≡ true
-  reach_found d i x r e z q = reach_at d i x r e ∙ rw (z, ← q) (by r)
-    where
-      by : (r : Row) → reach zero (r ∷ drop (suc i) rows) i i ≡ true
-      by (Open m n) = or_left _ _ (eq-eqb i i refl)
-      by (Close n) = eq-eqb i i refl
-      by (Field f) = or_left _ _ (eq-eqb i i refl)
-
--- what the search goes on with
-abbrev Onwards : Option ℕ → List Row → ℕ → ℕ → Bool
-Onwards None rs k x = false
-Onwards (Some d) rs k x = reach d rs k x
-
-passes_row : (d : ℕ) (r : Row) (rs : List Row) (k x : ℕ) → (d ≡ 0 → k ≡ x → ⊥) → reach d (r ∷ rs) k x ≡ Onwards (passing d r) rs (suc k) x
-passes_row zero (Open m n) rs k x h = rw (ne_eqb k x (h refl)) (by (may_miss m))
+pub repeats_read : (rows : List Row) (i : ℕ) → repeats (drop i rows) ≡ repeats_by (slice_get rows i)
+repeats_read rows i = by (slice_get rows i) refl
   where
-    by : (b : Bool) → (b && reach 1 rs (suc k) x) ≡ Onwards (cond b (Some 1) None) rs (suc k) x
-    by true = refl
-    by false = refl
-passes_row (suc d) (Open m n) rs k x h = refl
-passes_row zero (Close n) rs k x h = ne_eqb k x (h refl)
-passes_row (suc d) (Close n) rs k x h = refl
-passes_row zero (Field f) rs k x h = rw (ne_eqb k x (h refl)) (by (may_miss f.mark))
-  where
-    by : (b : Bool) → (b && reach 0 rs (suc k) x) ≡ Onwards (cond b (Some 0) None) rs (suc k) x
-    by true = refl
-    by false = refl
-passes_row (suc d) (Field f) rs k x h = refl
+    by : (o : Option Row) → slice_get rows i ≡ o → repeats (drop i rows) ≡ repeats_by o
+    by None e = ap repeats (past_rows rows i (sym e))
+    by (Some (Open m n)) e = ap repeats (at_row rows i (Open m n) (sym e))
+    by (Some (Close n)) e = ap repeats (at_row rows i (Close n) (sym e))
+    by (Some (Field f)) e = ap repeats (at_row rows i (Field f) (sym e))
 
-pub reach_on : (rows : List Row) (d i x : ℕ) (r : Row) (c : ℕ) → Some r ≡ slice_get rows i → (d ≡ 0 → i ≡ x → ⊥) → Some c ≡ passing d r
-    → reach d (drop i rows) i x ≡ reach c (drop (i + 1) rows) (i + 1) x
-reach_on rows d i x r c e n p =
-    rw add-one (reach_at rows d i x r e ∙ passes_row d r _ i x n ∙ sym (ap (λ (o : Option ℕ). Onwards o (drop (suc i) rows) (suc i) x) p))
-
-pub reach_stops : (rows : List Row) (d i x : ℕ) (r : Row) → Some r ≡ slice_get rows i → (d ≡ 0 → i ≡ x → ⊥) → None ≡ passing d r
-    → reach d (drop i rows) i x ≡ false
-reach_stops rows d i x r e n p =
-    reach_at rows d i x r e ∙ passes_row d r _ i x n ∙ sym (ap (λ (o : Option ℕ). Onwards o (drop (suc i) rows) (suc i) x) p)
-
-pub passing_bound : (d : ℕ) (r : Row) (c : ℕ) → Some c ≡ passing d r → c ≤ d + 1
-passing_bound zero (Open m n) c e = by (may_miss m) e
+pub ends_read : (rows : List Row) (i : ℕ) → ends (drop i rows) i ≡ ends_by rows i (slice_get rows i)
+ends_read rows i = by (slice_get rows i) refl
   where
-    by : (b : Bool) → Some c ≡ cond b (Some 1) None → c ≤ 0 + 1
-    by true q = let n : c ≡ 1 = cc in omega arith
-    by false q = let n : ◌≡◌ {A = ℕ} 0 1 = cc in absurd (omega arith)
-passing_bound (suc d) (Open m n) c e = let n : c ≡ suc (suc d) = cc in omega arith
-passing_bound zero (Close n) c e = let n : ◌≡◌ {A = ℕ} 0 1 = cc in absurd (omega arith)
-passing_bound (suc d) (Close n) c e = let n : c ≡ d = cc in omega arith
-passing_bound zero (Field f) c e = by (may_miss f.mark) e
-  where
-    by : (b : Bool) → Some c ≡ cond b (Some 0) None → c ≤ 0 + 1
-    by true q = let n : c ≡ 0 = cc in omega arith
-    by false q = let n : ◌≡◌ {A = ℕ} 0 1 = cc in absurd (omega arith)
-passing_bound (suc d) (Field f) c e = let n : c ≡ suc d = cc in omega arith
+    by : (o : Option Row) → slice_get rows i ≡ o → ends (drop i rows) i ≡ ends_by rows i o
+    by None e = ap (λ (l : List Row). ends l i) (past_rows rows i (sym e))
+    by (Some (Open m n)) e = rw add-one (ap (λ (l : List Row). ends l i) (at_row rows i (Open m n) (sym e)))
+    by (Some (Close n)) e = ap (λ (l : List Row). ends l i) (at_row rows i (Close n) (sym e))
+    by (Some (Field f)) e = ap (λ (l : List Row). ends l i) (at_row rows i (Field f) (sym e))
 
 -- the tests at a row that was read
 follows_some : (rows : List Row) (last : Option ℕ) (l x : ℕ) → last ≡ Some l → l < length rows → x < length rows

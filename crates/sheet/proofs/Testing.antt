@@ -5,9 +5,8 @@ use Rattle.std.proofs.lemmas.Slice.Eq.{bytes_eq-Decides}
 use Rattle.std.specs.Str.{bytes_eq}
 use Rattle.fields.specs.declared.headers.Tag.{Tag}
 use Rattle.fields.specs.declared.headers.Qualifier.{Qualifier}
-use Rattle.sheet.specs.declared.rows.Row.{Row}
-use Rattle.sheet.specs.declared.rows.Row.TheVariants.{Open, Close, Field}
-use Rattle.sheet.specs.Rows.{name_of, qualifiers_of, is_tag, is_qualifier, among, admits}
+use Rattle.sheet.specs.Rows.{Row, is_tag, is_qualifier, among, admits}
+use Rattle.sheet.specs.Rows.Row.{Open, Close, Field}
 use Rattle.sheet.specs.Sentences.{Parts, laid}
 use Rattle.sheet.specs.Sentences.Parts.{end, line, block}
 use Rattle.sheet.specs.Keys.{Key, row_has, find_row}
@@ -52,13 +51,13 @@ pairs (line f rest) more (o ∷ os) t q n h = pairs rest more (o ∷ os) t q n h
 pairs (block m a inner c rest) zero os t q n h = absurd n
 pairs (block m a inner c rest) (suc more) [] t q n h =
     let r = pairs rest (suc more) [] t q n.2 h in
-    pairs inner more (name_of a ∷ []) (Close c ∷ laid rest t) (omega arith) n.1
-    (and_from (bytes_eq (name_of a) (name_of c)) (paired [] (laid rest t)) ((bytes_eq-Decides (name_of a) (name_of c)).1 n.0) r)
+    pairs inner more (a ∷ []) (Close c ∷ laid rest t) (omega arith) n.1
+    (and_from (bytes_eq a c) (paired [] (laid rest t)) ((bytes_eq-Decides a c).1 n.0) r)
 pairs (block m a inner c rest) (suc more) (o ∷ os) t q n h =
     let r = pairs rest (suc more) (o ∷ os) t q n.2 h in
-    and_from (ltb (length (o ∷ os)) 4) (paired (name_of a ∷ (o ∷ os)) (laid inner (Close c ∷ laid rest t))) (lt-ltb (length (o ∷ os)) 4 (omega arith))
-    (pairs inner more (name_of a ∷ (o ∷ os)) (Close c ∷ laid rest t) (omega arith) n.1
-    (and_from (bytes_eq (name_of a) (name_of c)) (paired (o ∷ os) (laid rest t)) ((bytes_eq-Decides (name_of a) (name_of c)).1 n.0) r))
+    and_from (ltb (length (o ∷ os)) 4) (paired (a ∷ (o ∷ os)) (laid inner (Close c ∷ laid rest t))) (lt-ltb (length (o ∷ os)) 4 (omega arith))
+    (pairs inner more (a ∷ (o ∷ os)) (Close c ∷ laid rest t) (omega arith) n.1
+    (and_from (bytes_eq a c) (paired (o ∷ os) (laid rest t)) ((bytes_eq-Decides a c).1 n.0) r))
 
 -- a key of the list is a key of the row
 under_has : (t : Tag) (k : Key) (qs : List Qualifier) → In k (under t qs) → (q : Qualifier) × (k ≡ names t (Some q)) × (among q qs ≡ true)
@@ -72,13 +71,13 @@ field_has t k [] (inr i) = absurd i
 field_has t k (q ∷ qs) i = let r = under_has t k (q ∷ qs) i in (Some r.0, r.1, r.2)
 
 has_key : (r : Row) (k : Key) → In k (keys_in r) → row_has r k ≡ true
-has_key (Open m n) k (inl e) = ap (row_has (Open m n)) e ∙ (bytes_eq-Decides (name_of n) (name_of n)).1 refl
+has_key (Open m n) k (inl e) = ap (row_has (Open m n)) e ∙ (bytes_eq-Decides n n).1 refl
 has_key (Open m n) k (inr i) = absurd i
-has_key (Close n) k (inl e) = ap (row_has (Close n)) e ∙ (bytes_eq-Decides (name_of n) (name_of n)).1 refl
+has_key (Close n) k (inl e) = ap (row_has (Close n)) e ∙ (bytes_eq-Decides n n).1 refl
 has_key (Close n) k (inr i) = absurd i
 has_key (Field f) k i =
-    let r = field_has f.tag k (qualifiers_of f.qualifiers) i in
-    ap (row_has (Field f)) r.1 ∙ and_from (is_tag f.tag f.tag) (admits (qualifiers_of f.qualifiers) r.0) (tag_self f.tag) r.2
+    let r = field_has f.tag k f.qualifiers i in
+    ap (row_has (Field f)) r.1 ∙ and_from (is_tag f.tag f.tag) (admits f.qualifiers r.0) (tag_self f.tag) r.2
 
 -- keys that are apart pass the test
 one_of : (r : Row) (ks : List Key) → has_one r ks ≡ true → (k : Key) × In k ks × (row_has r k ≡ true)

@@ -5,9 +5,8 @@ use Rattle.fields.specs.Characters.{digit, capital, alphanumeric, set_x}
 use Rattle.fields.specs.Headers.{bare}
 use Rattle.fields.specs.declared.headers.Tag.{Tag}
 use Rattle.fields.specs.declared.headers.Qualifier.{Qualifier}
-use Rattle.sheet.specs.declared.rows.Row.{Row}
-use Rattle.sheet.specs.declared.rows.Row.TheVariants.{Open, Close, Field}
-use Rattle.sheet.specs.Rows.{name_of, qualifiers_of, is_tag}
+use Rattle.sheet.specs.Rows.{Row, is_tag}
+use Rattle.sheet.specs.Rows.Row.{Open, Close, Field}
 use Rattle.sheet.specs.Keys.{Key, row_has}
 use Rattle.sheet.specs.Keys.Key.{opens, closes, names}
 
@@ -16,10 +15,10 @@ use Rattle.sheet.specs.Keys.Key.{opens, closes, names}
 abbrev pub paired : List (List ℕ) → List Row → Bool
 paired [] [] = true
 paired (o ∷ os) [] = false
-paired [] (Open m n ∷ rs) = paired (name_of n ∷ []) rs
-paired (o ∷ os) (Open m n ∷ rs) = nat_lt (length (o ∷ os)) 4 && paired (name_of n ∷ (o ∷ os)) rs
+paired [] (Open m n ∷ rs) = paired (n ∷ []) rs
+paired (o ∷ os) (Open m n ∷ rs) = nat_lt (length (o ∷ os)) 4 && paired (n ∷ (o ∷ os)) rs
 paired [] (Close n ∷ rs) = false
-paired (o ∷ os) (Close n ∷ rs) = bytes_eq o (name_of n) && paired os rs
+paired (o ∷ os) (Close n ∷ rs) = bytes_eq o n && paired os rs
 paired [] (Field f ∷ rs) = paired [] rs
 paired (o ∷ os) (Field f ∷ rs) = paired (o ∷ os) rs
 
@@ -33,9 +32,9 @@ field_keys t [] = names t None ∷ []
 field_keys t (q ∷ qs) = under t (q ∷ qs)
 
 abbrev pub keys_in : Row → List Key
-keys_in (Open m n) = opens (name_of n) ∷ []
-keys_in (Close n) = closes (name_of n) ∷ []
-keys_in (Field f) = field_keys f.tag (qualifiers_of f.qualifiers)
+keys_in (Open m n) = opens n ∷ []
+keys_in (Close n) = closes n ∷ []
+keys_in (Field f) = field_keys f.tag f.qualifiers
 
 -- has the row one of these keys?
 abbrev pub has_one : Row → List Key → Bool

@@ -4,8 +4,7 @@ use Rattle.std.specs.List.{slice_get}
 use Rattle.fields.specs.declared.walk.Field.{Field as TextField}
 use Rattle.fields.specs.Fields.{fields}
 use Rattle.fields.specs.Faults.{text_verdict}
-use Rattle.sheet.specs.declared.rows.Row.{Row}
-use Rattle.sheet.specs.Rows.{name_of}
+use Rattle.sheet.specs.Rows.{Row}
 use Rattle.sheet.specs.Sentences.{Parts, laid, IsSentence, BeginsOne}
 use Rattle.sheet.specs.Sentences.Parts.{end, line, block}
 use Rattle.sheet.specs.Steps.{Walks, Reads}
@@ -35,7 +34,7 @@ abbrev pub Nested : ℕ → Parts → Type 0
 Nested d end = Unit {0}
 Nested d (line f rest) = Nested d rest
 Nested zero (block m n inner c rest) = ⊥
-Nested (suc d) (block m n inner c rest) = (name_of n ≡ name_of c) × Nested d inner × Nested (suc d) rest
+Nested (suc d) (block m n inner c rest) = (n ≡ c) × Nested d inner × Nested (suc d) rest
 
 -- the law of a sheet
 pub record Law (rows : List Row) : Type 0 where

@@ -1,5 +1,6 @@
 pub mod Marks
 pub mod Rows
+pub mod Coming
 pub mod Keys
 pub mod Sentences
 pub mod Steps

@@ -2,7 +2,7 @@
 use Rattle.std.specs.Prelude.{ℕ, cond, List, [], ◌∷◌, length, is_some, Some, None, Option}
 use Rattle.fields.specs.declared.walk.Field.{Field as TextField}
 use Rattle.fields.specs.Fields.{fields}
-use Rattle.sheet.specs.declared.rows.Row.{Row}
+use Rattle.sheet.specs.Rows.{Row}
 use Rattle.sheet.specs.Keys.{Key, key_of, find_row}
 use Rattle.sheet.specs.Steps.{follows, may_end}
 

@@ -2,10 +2,8 @@
 -- numbers. Assumes nothing.
 use Rattle.std.specs.Prelude.{◌≡◌, ℕ, zero, suc, List, [], ◌∷◌, ◌++◌}
 use Rattle.sheet.specs.declared.marks.Mark.{Mark}
-use Rattle.sheet.specs.declared.rows.BlockName.{BlockName}
-use Rattle.sheet.specs.declared.rows.FieldRow.{FieldRow}
-use Rattle.sheet.specs.declared.rows.Row.{Row}
-use Rattle.sheet.specs.declared.rows.Row.TheVariants.{Open, Close, Field}
+use Rattle.sheet.specs.Rows.{FieldRow, Row}
+use Rattle.sheet.specs.Rows.Row.{Open, Close, Field}
 use Rattle.sheet.specs.Marks.{Allows}
 
 -- the parts of a sheet, or of a block, in their order: a field's row; or a whole block with its mark, the name where it begins, its
@@ -13,7 +11,7 @@ use Rattle.sheet.specs.Marks.{Allows}
 pub data Parts : Type 0 where
   end : Parts
   line : FieldRow → Parts → Parts
-  block : Mark → BlockName → Parts → BlockName → Parts → Parts
+  block : Mark → List ℕ → Parts → List ℕ → Parts → Parts
 
 -- the rows of the parts, and then the rows `t`
 abbrev pub laid : Parts → List Row → List Row

@@ -1,7 +1,7 @@
 -- Which row may follow which: what a reader asks of a sheet's rows. Assumes nothing.
 use Rattle.std.specs.Prelude.{◌≡◌, ℕ, zero, suc, Bool, true, false, cond, ◌&&◌, ◌||◌, List, [], ◌∷◌, length, drop, Some, None, Option, ◌==◌, nat_lt}
-use Rattle.sheet.specs.declared.rows.Row.{Row}
-use Rattle.sheet.specs.declared.rows.Row.TheVariants.{Open, Close, Field}
+use Rattle.sheet.specs.Rows.{Row}
+use Rattle.sheet.specs.Rows.Row.{Open, Close, Field}
 use Rattle.sheet.specs.Marks.{may_miss, may_repeat}
 
 -- the number of the row that closes the block whose rows, from number k, these are; d blocks are open in it

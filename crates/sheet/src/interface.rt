@@ -1,8 +1,9 @@
 // What every sheet promises.
 ghost use Rattle.std.specs.Prelude.{◌≡◌, ℕ, Bool, List, length, Option as Maybe};
 ghost use Rattle.std.specs.List.{slice_get};
+ghost use Rattle.std.specs.Option.{option_map};
 ghost use Rattle.fields.specs.declared.headers.Qualifier.{Qualifier as AQualifier};
-ghost use Rattle.sheet.specs.declared.rows.Row.{Row as ARow};
+ghost use Rattle.sheet.specs.Rows.{Row as ARow, row_of};
 ghost use Rattle.sheet.specs.Lawful.{Lawful};
 
 use crate::rows::Row;
@@ -23,8 +24,8 @@ pub trait Sheet {
         ensures { result ≡ length (rows self.now) };
 
     // The row of this number, from 0. None past the last.
-    fn row(&self, i: usize) -> Option<Row>
-        ensures { result ≡ slice_get (rows self.now) i };
+    fn row(&self, i: usize) -> Option<Row<'_>>
+        ensures { option_map row_of result ≡ slice_get (rows self.now) i };
 
     // Has the row of this number, under this qualifier if any, this code?
     fn has_code(&self, row: usize, qualifier: Option<Qualifier>, code: &[u8]) -> bool

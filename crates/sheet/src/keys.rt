@@ -1,28 +1,37 @@
 // Which row a field is of.
 ghost use Rattle.std.specs.Prelude.{◌≡◌};
-ghost use Rattle.sheet.specs.Keys.{key_as, find_row};
+ghost use Rattle.sheet.specs.Keys.{key_from, key_of, find_row};
 ghost use Rattle.sheet.specs.Laws.{Found, LawTested};
 
 use crate::interface::Sheet;
+use crate::walk::Rows;
 use fields::headers::{Qualifier, Tag};
+use fields::walk::{Field, value_of};
 
-// The number of the row whose key a field with this tag, this qualifier if any, and this value has.
-pub fn find_row<S: Sheet>(
-    sheet: &S,
-    tag: Tag,
-    qualifier: Option<Qualifier>,
-    value: &[u8],
-) -> Option<usize>
-    ensures value { result ≡ find_row (S.rows sheet.now) (key_as tag qualifier value.now) }
-    ensures found { Found (S.rows sheet.now) (key_as tag qualifier value.now) result }
+// What tells the row of a field: its tag, its qualifier if it has one, and its value, which is the name in a field that begins or ends a block.
+#[derive(Clone, Copy)]
+pub struct Key<'a> {
+    pub tag: Tag,
+    pub qualifier: Option<Qualifier>,
+    pub value: &'a [u8],
+}
+
+// The key of a field of the text.
+pub fn key_of(text: &[u8], field: Field) -> Key<'_>
+    ensures { key_from result ≡ key_of text.now field }
+{
+    Key {
+        tag: field.tag,
+        qualifier: field.qualifier,
+        value: value_of(text, field),
+    }
+}
+
+// The number of the row that has the key.
+pub fn find_row<S: Sheet>(sheet: &S, key: Key<'_>) -> Option<usize>
+    ensures value { result ≡ find_row (S.rows sheet.now) (key_from key.entry) }
+    ensures found { Found (S.rows sheet.now) (key_from key.entry) result }
     ensures law { LawTested }
 {
-    let mut i = 0;
-    while let Some(row) = sheet.row(i) {
-        if row.has_key(tag, qualifier, value) {
-            return Some(i);
-        }
-        i += 1;
-    }
-    None
+    Rows::of(sheet).position(|(_, row)| row.has_key(key))
 }

@@ -7,3 +7,4 @@ pub mod marks;
 pub mod order;
 pub mod rows;
 pub mod steps;
+pub mod walk;

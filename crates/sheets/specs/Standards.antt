@@ -4,12 +4,10 @@ use Rattle.std.specs.List.{slice_get}
 use Rattle.fields.specs.declared.headers.Qualifier.{Qualifier}
 use Rattle.sheet.specs.declared.rows.Format.{Format}
 use Rattle.sheet.specs.declared.rows.Format.TheVariants.{Reference, Code, Timestamp, Isin, Account, Owner, AlternateIdentifier, Quantity, OptionNumber, Vote}
-use Rattle.sheet.specs.declared.rows.Row.{Row}
-use Rattle.sheet.specs.declared.rows.Row.TheVariants.{Open, Close, Field}
-use Rattle.sheet.specs.Rows.{qualifiers_of, admits}
+use Rattle.sheet.specs.Rows.{Row, admits}
+use Rattle.sheet.specs.Rows.Row.{Open, Close, Field}
 use Rattle.sheets.specs.declared.standard.StandardSheet.{StandardSheet}
 use Rattle.sheets.specs.declared.standard.StandardSheet.TheVariants.{Mt565, Mt567}
-use Rattle.sheets.specs.declared.codes.Code.{Code as FourCharacters}
 use Rattle.sheets.specs.Tables.{rows565, rows567}
 use Rattle.sheets.specs.Codes.{among, instruction_functions, status_functions, listed}
 
@@ -22,7 +20,7 @@ rows_of Mt565 = rows565
 rows_of Mt567 = rows567
 
 -- the codes of 23G, which has no qualifier
-abbrev pub functions : StandardSheet → List FourCharacters
+abbrev pub functions : StandardSheet → List (List ℕ)
 functions Mt565 = instruction_functions
 functions Mt567 = status_functions
 
@@ -49,7 +47,7 @@ abbrev pub row_codes : StandardSheet → Option Row → Option Qualifier → Lis
 row_codes s None q c = false
 row_codes s (Some (Open m n)) q c = false
 row_codes s (Some (Close n)) q c = false
-row_codes s (Some (Field f)) q c = is_code f.format && (admits (qualifiers_of f.qualifiers) q && allowed s q c)
+row_codes s (Some (Field f)) q c = is_code f.format && (admits f.qualifiers q && allowed s q c)
 
 abbrev pub codes_of : StandardSheet → ℕ → Option Qualifier → List ℕ → Bool
 codes_of s i q c = row_codes s (slice_get (rows_of s) i) q c

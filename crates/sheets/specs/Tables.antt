@@ -1,22 +1,18 @@
 -- The rows of the two sheets. Assumes nothing.
-use Rattle.std.specs.Prelude.{List, [], ◌∷◌, replicate}
+use Rattle.std.specs.Prelude.{List, [], ◌∷◌}
+use Rattle.fields.specs.declared.headers.Qualifier.{Qualifier}
 use Rattle.sheet.specs.declared.marks.Mark.TheVariants.{Once, AtMostOnce, AtLeastOnce, AnyNumber}
 use Rattle.sheet.specs.declared.rows.Format.TheVariants.{Reference, Code, Timestamp, Isin, Account, Owner, AlternateIdentifier, Quantity, OptionNumber, Vote}
-use Rattle.sheet.specs.declared.rows.Qualifiers.{Qualifiers}
-use Rattle.sheet.specs.declared.rows.Row.{Row}
-use Rattle.sheet.specs.declared.rows.Row.TheVariants.{Open, Close}
+use Rattle.sheet.specs.Rows.{Row}
+use Rattle.sheet.specs.Rows.Row.{Open, Close}
 use Rattle.sheets.specs.Words.{block, qualifier, none, only, field}
 
--- the qualifiers of a status, and of its reason; what stands behind the last says nothing
-abbrev pub statuses : Qualifiers
-statuses = record { items = qualifier "CPRC" ∷ replicate 8 (qualifier "IPRC"); count = 2 }
+-- the qualifiers of a status, and of its reason
+abbrev pub statuses : List Qualifier
+statuses = qualifier "CPRC" ∷ qualifier "IPRC" ∷ []
 
-abbrev pub reasons : Qualifiers
-reasons =
-    record {
-      items = qualifier "PEND" ∷ qualifier "REJT" ∷ qualifier "CAND" ∷ qualifier "CANP" ∷ replicate 5 (qualifier "PACK");
-      count = 5;
-    }
+abbrev pub reasons : List Qualifier
+reasons = qualifier "PEND" ∷ qualifier "REJT" ∷ qualifier "CAND" ∷ qualifier "CANP" ∷ qualifier "PACK" ∷ []
 
 -- an instruction
 abbrev pub rows565 : List Row

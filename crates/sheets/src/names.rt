@@ -1,46 +1,5 @@
-// The names of blocks, the tags and the qualifiers of the two sheets.
+// The tags and the qualifiers of the two sheets.
 use fields::headers::{Qualifier, Tag};
-use sheet::rows::{BlockName, Qualifiers};
-
-pub const GENL_BLOCK: BlockName = BlockName {
-    bytes: [b'G', b'E', b'N', b'L', 0, 0, 0, 0],
-    len: 4,
-};
-
-pub const LINK_BLOCK: BlockName = BlockName {
-    bytes: [b'L', b'I', b'N', b'K', 0, 0, 0, 0],
-    len: 4,
-};
-
-pub const USECU_BLOCK: BlockName = BlockName {
-    bytes: [b'U', b'S', b'E', b'C', b'U', 0, 0, 0],
-    len: 5,
-};
-
-pub const ACCTINFO_BLOCK: BlockName = BlockName {
-    bytes: [b'A', b'C', b'C', b'T', b'I', b'N', b'F', b'O'],
-    len: 8,
-};
-
-pub const BENODET_BLOCK: BlockName = BlockName {
-    bytes: [b'B', b'E', b'N', b'O', b'D', b'E', b'T', 0],
-    len: 7,
-};
-
-pub const CAINST_BLOCK: BlockName = BlockName {
-    bytes: [b'C', b'A', b'I', b'N', b'S', b'T', 0, 0],
-    len: 6,
-};
-
-pub const STAT_BLOCK: BlockName = BlockName {
-    bytes: [b'S', b'T', b'A', b'T', 0, 0, 0, 0],
-    len: 4,
-};
-
-pub const REAS_BLOCK: BlockName = BlockName {
-    bytes: [b'R', b'E', b'A', b'S', 0, 0, 0, 0],
-    len: 4,
-};
 
 pub const TAG_20C: Tag = Tag(b'2', b'0', b'C');
 
@@ -89,88 +48,37 @@ pub const CANP: Qualifier = Qualifier(b'C', b'A', b'N', b'P');
 
 pub const PACK: Qualifier = Qualifier(b'P', b'A', b'C', b'K');
 
-// A row's qualifiers count from the first; the items behind the last say nothing.
-pub const NO_QUALIFIER: Qualifiers = Qualifiers {
-    items: [Qualifier(0, 0, 0, 0); 9],
-    count: 0,
-};
+// The qualifiers of a row: none, one alone, and those of a status and of its reason.
+pub const NO_QUALIFIER: &[Qualifier] = &[];
 
-pub const ONLY_CORP: Qualifiers = Qualifiers {
-    items: [Qualifier(b'C', b'O', b'R', b'P'); 9],
-    count: 1,
-};
+pub const ONLY_CORP: &[Qualifier] = &[Qualifier(b'C', b'O', b'R', b'P')];
 
-pub const ONLY_SEME: Qualifiers = Qualifiers {
-    items: [Qualifier(b'S', b'E', b'M', b'E'); 9],
-    count: 1,
-};
+pub const ONLY_SEME: &[Qualifier] = &[Qualifier(b'S', b'E', b'M', b'E')];
 
-pub const ONLY_CAEV: Qualifiers = Qualifiers {
-    items: [CAEV; 9],
-    count: 1,
-};
+pub const ONLY_CAEV: &[Qualifier] = &[CAEV];
 
-pub const ONLY_PREP: Qualifiers = Qualifiers {
-    items: [Qualifier(b'P', b'R', b'E', b'P'); 9],
-    count: 1,
-};
+pub const ONLY_PREP: &[Qualifier] = &[Qualifier(b'P', b'R', b'E', b'P')];
 
-pub const ONLY_LINK: Qualifiers = Qualifiers {
-    items: [LINK; 9],
-    count: 1,
-};
+pub const ONLY_LINK: &[Qualifier] = &[LINK];
 
-pub const ONLY_PREV: Qualifiers = Qualifiers {
-    items: [Qualifier(b'P', b'R', b'E', b'V'); 9],
-    count: 1,
-};
+pub const ONLY_PREV: &[Qualifier] = &[Qualifier(b'P', b'R', b'E', b'V')];
 
-pub const ONLY_SAFE: Qualifiers = Qualifiers {
-    items: [Qualifier(b'S', b'A', b'F', b'E'); 9],
-    count: 1,
-};
+pub const ONLY_SAFE: &[Qualifier] = &[Qualifier(b'S', b'A', b'F', b'E')];
 
-pub const ONLY_OWND: Qualifiers = Qualifiers {
-    items: [Qualifier(b'O', b'W', b'N', b'D'); 9],
-    count: 1,
-};
+pub const ONLY_OWND: &[Qualifier] = &[Qualifier(b'O', b'W', b'N', b'D')];
 
-pub const ONLY_ALTE: Qualifiers = Qualifiers {
-    items: [Qualifier(b'A', b'L', b'T', b'E'); 9],
-    count: 1,
-};
+pub const ONLY_ALTE: &[Qualifier] = &[Qualifier(b'A', b'L', b'T', b'E')];
 
-pub const ONLY_CAON: Qualifiers = Qualifiers {
-    items: [Qualifier(b'C', b'A', b'O', b'N'); 9],
-    count: 1,
-};
+pub const ONLY_CAON: &[Qualifier] = &[Qualifier(b'C', b'A', b'O', b'N')];
 
-pub const ONLY_CAOP: Qualifiers = Qualifiers {
-    items: [CAOP; 9],
-    count: 1,
-};
+pub const ONLY_CAOP: &[Qualifier] = &[CAOP];
 
-pub const ONLY_QINS: Qualifiers = Qualifiers {
-    items: [Qualifier(b'Q', b'I', b'N', b'S'); 9],
-    count: 1,
-};
+pub const ONLY_QINS: &[Qualifier] = &[Qualifier(b'Q', b'I', b'N', b'S')];
 
-pub const ONLY_INST: Qualifiers = Qualifiers {
-    items: [Qualifier(b'I', b'N', b'S', b'T'); 9],
-    count: 1,
-};
+pub const ONLY_INST: &[Qualifier] = &[Qualifier(b'I', b'N', b'S', b'T')];
 
-pub const ONLY_RELA: Qualifiers = Qualifiers {
-    items: [Qualifier(b'R', b'E', b'L', b'A'); 9],
-    count: 1,
-};
+pub const ONLY_RELA: &[Qualifier] = &[Qualifier(b'R', b'E', b'L', b'A')];
 
-pub const STATUSES: Qualifiers = Qualifiers {
-    items: [CPRC, IPRC, IPRC, IPRC, IPRC, IPRC, IPRC, IPRC, IPRC],
-    count: 2,
-};
+pub const STATUSES: &[Qualifier] = &[CPRC, IPRC];
 
-pub const REASONS: Qualifiers = Qualifiers {
-    items: [PEND, REJT, CAND, CANP, PACK, PACK, PACK, PACK, PACK],
-    count: 5,
-};
+pub const REASONS: &[Qualifier] = &[PEND, REJT, CAND, CANP, PACK];

@@ -1,10 +1,12 @@
 // The sheets of the standard's two messages, chosen by the message number.
-ghost use Rattle.std.specs.Prelude.{◌≡◌};
-ghost use Rattle.sheets.specs.Standards.{sheet_of, rows_of, codes_of, allowed as may_stand};
+ghost use Rattle.std.specs.Prelude.{◌≡◌, map};
+ghost use Rattle.std.specs.Result.{result_ok};
+ghost use Rattle.sheet.specs.Rows.{row_of};
+ghost use Rattle.sheets.specs.Standards.{sheet_of, rows_of, functions, codes_of, allowed as may_stand};
 ghost use Rattle.sheets.specs.Lawful.{all_lawful};
 
 use crate::codes::{INSTRUCTION_FUNCTIONS, STATUS_FUNCTIONS, is_among, stands_under};
-use crate::tables::{instruction_len, instruction_row, status_len, status_row};
+use crate::tables::{INSTRUCTION_ROWS, STATUS_ROWS};
 use fields::headers::Qualifier;
 use sheet::interface::Sheet;
 use sheet::rows::{Format, Row};
@@ -19,14 +21,23 @@ pub enum StandardSheet {
 }
 
 impl StandardSheet {
-    // The sheet of a message number.
-    pub fn of(number: u16) -> Option<StandardSheet>
-        ensures { result ≡ sheet_of number }
+    // The rows of the sheet.
+    fn rows(self) -> &'static [Row<'static>]
+        ensures { map row_of result.now ≡ rows_of self }
     {
-        match number {
-            565 => Some(StandardSheet::Mt565),
-            567 => Some(StandardSheet::Mt567),
-            _ => None,
+        match self {
+            StandardSheet::Mt565 => INSTRUCTION_ROWS,
+            StandardSheet::Mt567 => STATUS_ROWS,
+        }
+    }
+
+    // The codes of 23G, which has no qualifier.
+    fn functions(self) -> &'static [&'static [u8]]
+        ensures { map (λ k. k.now) result.now ≡ functions self }
+    {
+        match self {
+            StandardSheet::Mt565 => INSTRUCTION_FUNCTIONS,
+            StandardSheet::Mt567 => STATUS_FUNCTIONS,
         }
     }
 
@@ -36,10 +47,26 @@ impl StandardSheet {
     {
         match qualifier {
             Some(qualifier) => stands_under(qualifier, code),
-            None => match self {
-                StandardSheet::Mt565 => is_among(&INSTRUCTION_FUNCTIONS, code),
-                StandardSheet::Mt567 => is_among(&STATUS_FUNCTIONS, code),
-            },
+            None => is_among(self.functions(), code),
+        }
+    }
+}
+
+// No sheet has this message number.
+#[derive(Clone, Copy, PartialEq, Eq, Debug)]
+pub struct UnknownMessage;
+
+// The sheet of a message number.
+impl TryFrom<u16> for StandardSheet {
+    type Error = UnknownMessage;
+
+    ghost try_from_gives = { λ number r. result_ok r ≡ sheet_of number };
+
+    fn try_from(number: u16) -> Result<StandardSheet, UnknownMessage> {
+        match number {
+            565 => Ok(StandardSheet::Mt565),
+            567 => Ok(StandardSheet::Mt567),
+            _ => Err(UnknownMessage),
         }
     }
 }
@@ -52,25 +79,20 @@ impl Sheet for StandardSheet {
     ghost lawful = { all_lawful };
 
     fn len(&self) -> usize {
-        match self {
-            StandardSheet::Mt565 => instruction_len(),
-            StandardSheet::Mt567 => status_len(),
-        }
+        self.rows().len()
     }
 
-    fn row(&self, i: usize) -> Option<Row> {
-        match self {
-            StandardSheet::Mt565 => instruction_row(i),
-            StandardSheet::Mt567 => status_row(i),
-        }
+    fn row(&self, i: usize) -> Option<Row<'_>> {
+        self.rows().get(i).copied()
     }
 
     fn has_code(&self, row: usize, qualifier: Option<Qualifier>, code: &[u8]) -> bool {
-        let Some(Row::Field(field)) = self.row(row) else {
-            return false;
-        };
-        match field.format {
-            Format::Code => field.qualifiers.admit(qualifier) && self.allows(qualifier, code),
+        match self.row(row) {
+            Some(Row::Field(field)) => {
+                field.format == Format::Code
+                    && field.admits(qualifier)
+                    && self.allows(qualifier, code)
+            }
             _ => false,
         }
     }

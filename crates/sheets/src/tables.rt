@@ -1,21 +1,17 @@
 // The rows of the two sheets.
-ghost use Rattle.std.specs.Prelude.{◌≡◌, length};
-ghost use Rattle.std.specs.List.{slice_get};
-ghost use Rattle.sheets.specs.Tables.{rows565, rows567};
 
 use crate::names::{
-    ACCTINFO_BLOCK, BENODET_BLOCK, CAINST_BLOCK, GENL_BLOCK, LINK_BLOCK, NO_QUALIFIER, ONLY_ALTE,
-    ONLY_CAEV, ONLY_CAON, ONLY_CAOP, ONLY_CORP, ONLY_INST, ONLY_LINK, ONLY_OWND, ONLY_PREP,
-    ONLY_PREV, ONLY_QINS, ONLY_RELA, ONLY_SAFE, ONLY_SEME, REAS_BLOCK, REASONS, STAT_BLOCK,
-    STATUSES, TAG_13A, TAG_20C, TAG_22F, TAG_23G, TAG_24B, TAG_25D, TAG_35B, TAG_36B, TAG_70E,
-    TAG_95S, TAG_95V, TAG_97A, TAG_98C, USECU_BLOCK,
+    NO_QUALIFIER, ONLY_ALTE, ONLY_CAEV, ONLY_CAON, ONLY_CAOP, ONLY_CORP, ONLY_INST, ONLY_LINK,
+    ONLY_OWND, ONLY_PREP, ONLY_PREV, ONLY_QINS, ONLY_RELA, ONLY_SAFE, ONLY_SEME, REASONS, STATUSES,
+    TAG_13A, TAG_20C, TAG_22F, TAG_23G, TAG_24B, TAG_25D, TAG_35B, TAG_36B, TAG_70E, TAG_95S,
+    TAG_95V, TAG_97A, TAG_98C,
 };
 use sheet::marks::Mark;
 use sheet::rows::{FieldRow, Format, Row};
 
 // The rows of an instruction, 565.
-const INSTRUCTION_ROWS: [Row; 28] = [
-    Row::Open(Mark::Once, GENL_BLOCK),
+pub const INSTRUCTION_ROWS: &[Row<'static>] = &[
+    Row::Open(Mark::Once, b"GENL"),
     Row::Field(FieldRow {
         mark: Mark::Once,
         tag: TAG_20C,
@@ -46,7 +42,7 @@ const INSTRUCTION_ROWS: [Row; 28] = [
         qualifiers: ONLY_PREP,
         format: Format::Timestamp,
     }),
-    Row::Open(Mark::AtMostOnce, LINK_BLOCK),
+    Row::Open(Mark::AtMostOnce, b"LINK"),
     Row::Field(FieldRow {
         mark: Mark::Once,
         tag: TAG_13A,
@@ -59,25 +55,25 @@ const INSTRUCTION_ROWS: [Row; 28] = [
         qualifiers: ONLY_PREV,
         format: Format::Reference,
     }),
-    Row::Close(LINK_BLOCK),
-    Row::Close(GENL_BLOCK),
-    Row::Open(Mark::Once, USECU_BLOCK),
+    Row::Close(b"LINK"),
+    Row::Close(b"GENL"),
+    Row::Open(Mark::Once, b"USECU"),
     Row::Field(FieldRow {
         mark: Mark::Once,
         tag: TAG_35B,
         qualifiers: NO_QUALIFIER,
         format: Format::Isin,
     }),
-    Row::Open(Mark::Once, ACCTINFO_BLOCK),
+    Row::Open(Mark::Once, b"ACCTINFO"),
     Row::Field(FieldRow {
         mark: Mark::Once,
         tag: TAG_97A,
         qualifiers: ONLY_SAFE,
         format: Format::Account,
     }),
-    Row::Close(ACCTINFO_BLOCK),
-    Row::Close(USECU_BLOCK),
-    Row::Open(Mark::Once, BENODET_BLOCK),
+    Row::Close(b"ACCTINFO"),
+    Row::Close(b"USECU"),
+    Row::Open(Mark::Once, b"BENODET"),
     Row::Field(FieldRow {
         mark: Mark::Once,
         tag: TAG_95V,
@@ -96,8 +92,8 @@ const INSTRUCTION_ROWS: [Row; 28] = [
         qualifiers: ONLY_OWND,
         format: Format::Quantity,
     }),
-    Row::Close(BENODET_BLOCK),
-    Row::Open(Mark::Once, CAINST_BLOCK),
+    Row::Close(b"BENODET"),
+    Row::Open(Mark::Once, b"CAINST"),
     Row::Field(FieldRow {
         mark: Mark::Once,
         tag: TAG_13A,
@@ -122,12 +118,12 @@ const INSTRUCTION_ROWS: [Row; 28] = [
         qualifiers: ONLY_INST,
         format: Format::Vote,
     }),
-    Row::Close(CAINST_BLOCK),
+    Row::Close(b"CAINST"),
 ];
 
 // The rows of a status, 567.
-const STATUS_ROWS: [Row; 17] = [
-    Row::Open(Mark::Once, GENL_BLOCK),
+pub const STATUS_ROWS: &[Row<'static>] = &[
+    Row::Open(Mark::Once, b"GENL"),
     Row::Field(FieldRow {
         mark: Mark::Once,
         tag: TAG_20C,
@@ -158,7 +154,7 @@ const STATUS_ROWS: [Row; 17] = [
         qualifiers: ONLY_PREP,
         format: Format::Timestamp,
     }),
-    Row::Open(Mark::Once, LINK_BLOCK),
+    Row::Open(Mark::Once, b"LINK"),
     Row::Field(FieldRow {
         mark: Mark::Once,
         tag: TAG_13A,
@@ -171,59 +167,22 @@ const STATUS_ROWS: [Row; 17] = [
         qualifiers: ONLY_RELA,
         format: Format::Reference,
     }),
-    Row::Close(LINK_BLOCK),
-    Row::Open(Mark::Once, STAT_BLOCK),
+    Row::Close(b"LINK"),
+    Row::Open(Mark::Once, b"STAT"),
     Row::Field(FieldRow {
         mark: Mark::Once,
         tag: TAG_25D,
         qualifiers: STATUSES,
         format: Format::Code,
     }),
-    Row::Open(Mark::AnyNumber, REAS_BLOCK),
+    Row::Open(Mark::AnyNumber, b"REAS"),
     Row::Field(FieldRow {
         mark: Mark::Once,
         tag: TAG_24B,
         qualifiers: REASONS,
         format: Format::Code,
     }),
-    Row::Close(REAS_BLOCK),
-    Row::Close(STAT_BLOCK),
-    Row::Close(GENL_BLOCK),
+    Row::Close(b"REAS"),
+    Row::Close(b"STAT"),
+    Row::Close(b"GENL"),
 ];
-
-// The row of this number, from 0. None past the last.
-fn row_at(rows: &[Row], i: usize) -> Option<Row>
-    ensures { result ≡ slice_get rows.now i }
-{
-    if i < rows.len() { Some(rows[i]) } else { None }
-}
-
-// How many rows an instruction has.
-pub fn instruction_len() -> usize
-    ensures { result ≡ length rows565 }
-{
-    INSTRUCTION_ROWS.len()
-}
-
-// The row of an instruction, by its number.
-pub fn instruction_row(i: usize) -> Option<Row>
-    ensures { result ≡ slice_get rows565 i }
-{
-    let rows = INSTRUCTION_ROWS;
-    row_at(&rows, i)
-}
-
-// How many rows a status has.
-pub fn status_len() -> usize
-    ensures { result ≡ length rows567 }
-{
-    STATUS_ROWS.len()
-}
-
-// The row of a status, by its number.
-pub fn status_row(i: usize) -> Option<Row>
-    ensures { result ≡ slice_get rows567 i }
-{
-    let rows = STATUS_ROWS;
-    row_at(&rows, i)
-}

@@ -1,5 +1,5 @@
 -- The ballot: a sum for each of 32 questions and 16 cells, modulo 2^64. Assumes nothing.
-use Rattle.std.specs.Prelude.{ℕ, ◌+◌, ◌-◌, ◌*◌, ◌%◌, ◌^◌, Bool, cond, ◌&&◌, List, Some, None, Option, ◌==◌, nat_le, slice_index, slice_set}
+use Rattle.std.specs.Prelude.{ℕ, ◌+◌, ◌-◌, ◌%◌, ◌^◌, Bool, cond, ◌&&◌, List, [], Some, None, Option, ◌==◌, nat_le, slice_index, slice_index_or, slice_set}
 use Rattle.std.proofs.Common.{lit<}
 use Rattle.tally.specs.declared.vote.Vote.{Vote}
 use Rattle.tally.specs.Scale.{Scale}
@@ -26,17 +26,17 @@ Figures = ℕ → ℕ → Residue (2 ^ 64)
 abbrev pub ballot : Scale Figures
 ballot = each (λ question. each (λ cell. modulo (2 ^ 64) (lit< tt) (λ v. ballot_weight v question cell)))
 
--- the cells lie question by question, from place 0
-abbrev pub place : ℕ → ℕ → ℕ
-place question cell = (question - 1) * 16 + (cell - 1)
+-- the number of a cell of a question, both counted from 1
+abbrev pub number_at : List (List ℕ) → ℕ → ℕ → ℕ
+number_at numbers question cell = slice_index (slice_index_or numbers (question - 1) []) (cell - 1)
 
--- the figures that 512 numbers hold; off the table they are 0
-abbrev pub figures : List ℕ → Figures
-figures numbers question cell = residue (2 ^ 64) (lit< tt) (cond (on_table question cell) (slice_index numbers (place question cell)) 0)
+-- the figures that 16 numbers for each of 32 questions hold; off the table they are 0
+abbrev pub figures : List (List ℕ) → Figures
+figures numbers question cell = residue (2 ^ 64) (lit< tt) (cond (on_table question cell) (number_at numbers question cell) 0)
 
 -- the numbers with one of them raised; off the table they stay
-abbrev pub shifted : List ℕ → ℕ → ℕ → ℕ → List ℕ
-shifted numbers question cell by = cond (on_table question cell) (slice_set numbers (place question cell) ((slice_index numbers (place question cell) + by) % 2 ^ 64)) numbers
+abbrev pub shifted : List (List ℕ) → ℕ → ℕ → ℕ → List (List ℕ)
+shifted numbers question cell by = cond (on_table question cell) (slice_set numbers (question - 1) (slice_set (slice_index_or numbers (question - 1) []) (cell - 1) ((number_at numbers question cell + by) % 2 ^ 64))) numbers
 
 -- what is answered of a question and a cell: its figure, and none off the table
 abbrev pub answered : Figures → ℕ → ℕ → Option ℕ

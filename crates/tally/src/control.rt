@@ -1,5 +1,5 @@
 // The control total: one number that all votes move.
-ghost use Rattle.std.specs.Prelude.{◌≡◌, ◌+◌, Some, None};
+ghost use Rattle.std.specs.Prelude.{◌≡◌, ◌+◌, ◌<◌, Some, None};
 ghost use Rattle.tally.specs.Residue.{Residue};
 ghost use Rattle.tally.specs.Control.{control_modulus, control_weight, control, exactly, leaving};
 ghost use Rattle.tally.specs.Laws.{TotalCounts};
@@ -7,35 +7,34 @@ ghost use Rattle.std.proofs.Common.{lit<};
 ghost use Rattle.tally.specs.Residues.{modulo_group};
 
 use crate::interface::Tally;
-use crate::remainder::{Remainder, opposite, reduced};
+use crate::remainder::{opposite, reduced};
 use crate::vote::Vote;
 
 // The sum of quantity times question number, modulo 10,000,000,000.
 #[derive(Drop)]
 pub struct ControlTotal {
-    sum: Remainder,
+    sum: u64,
+    ghost below: { sum < control_modulus },
 }
 
 impl ControlTotal {
     pub fn new() -> ControlTotal
-        ensures { exactly result.sum.number result.sum.below ≡ control.neutral }
+        ensures { exactly result.sum result.below ≡ control.neutral }
     {
-        ControlTotal {
-            sum: Remainder::of(0),
-        }
+        ControlTotal { sum: 0 }
     }
 
     pub fn total(&self) -> u64
-        ensures value { result ≡ self.now.sum.number }
-        ensures counts { TotalCounts (exactly self.now.sum.number self.now.sum.below) result }
+        ensures value { result ≡ self.now.sum }
+        ensures counts { TotalCounts (exactly self.now.sum self.now.below) result }
     {
-        self.sum.number()
+        self.sum
     }
 
     fn join(&mut self, weight: u64)
-        ensures { exactly self.new.sum.number self.new.sum.below ≡ leaving (self.old.sum.number + weight) }
+        ensures { exactly self.new.sum self.new.below ≡ leaving (self.old.sum + weight) }
     {
-        self.sum = Remainder::of(u128::from(self.sum.number()) + u128::from(weight));
+        self.sum = reduced(u128::from(self.sum) + u128::from(weight));
     }
 }
 
@@ -49,7 +48,7 @@ fn weighed(vote: Vote) -> u64
 impl Tally for ControlTotal {
     ghost Value = { Residue control_modulus };
 
-    ghost value = { λ t. exactly t.sum.number t.sum.below };
+    ghost value = { λ t. exactly t.sum t.below };
 
     ghost scale = { λ _. control };
 

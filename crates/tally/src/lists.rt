@@ -6,6 +6,8 @@ ghost use Rattle.tally.specs.Laws.{Added, Undone};
 use crate::interface::Tally;
 use crate::vote::Vote;
 
+// Stays two loops: one over a closure would have to say of the closure all that `add` and `take_back` promise.
+
 // Adds every vote of a list.
 pub fn add_all<T: Tally>(tally: &mut T, votes: &[Vote])
     ensures scale { T.Tally.scale tally.new ≡ T.Tally.scale tally.old }

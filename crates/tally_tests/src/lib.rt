@@ -14,37 +14,25 @@ mod tests {
         Both::new(Ballot::new(), ControlTotal::new())
     }
 
+    fn vote(question: u8, cell: u8, quantity: u64) -> Vote {
+        Vote {
+            question,
+            cell,
+            quantity,
+        }
+    }
+
     #[test]
     fn what_is_added_can_be_taken_back(rt: HostRuntime) {
         let votes = [
-            Vote {
-                question: 2,
-                cell: 1,
-                quantity: 2000,
-            },
-            Vote {
-                question: 2,
-                cell: 2,
-                quantity: 1000,
-            },
-            Vote {
-                question: 32,
-                cell: 16,
-                quantity: u64::MAX,
-            },
-            Vote {
-                question: 33,
-                cell: 1,
-                quantity: 7,
-            },
+            vote(2, 1, 2000),
+            vote(2, 2, 1000),
+            vote(32, 16, u64::MAX),
+            vote(33, 1, 7),
         ];
         let mut tally = pair();
         add_all(&mut tally, &votes);
-        tally.add(Vote {
-            question: 32,
-            cell: 16,
-            quantity: 5,
-        });
+        tally.add(vote(32, 16, 5));
         assert_eq!(rt; tally.first().figure(2, 1), Some(2000));
         assert_eq!(rt; tally.first().figure(32, 16), Some(4));
         assert_eq!(rt; tally.second().total(), 8_705_658_071);
@@ -61,11 +49,7 @@ mod tests {
         let edges = [(1u8, 1u8), (1, 16), (16, 8), (32, 1), (32, 16)];
         for (question, cell) in edges {
             let mut ballot = Ballot::new();
-            ballot.add(Vote {
-                question,
-                cell,
-                quantity: 3,
-            });
+            ballot.add(vote(question, cell, 3));
             for (q, c) in edges {
                 let expected = if q == question && c == cell { 3 } else { 0 };
                 assert_eq!(rt; ballot.figure(q, c), Some(expected));
@@ -80,11 +64,7 @@ mod tests {
     #[test]
     fn a_pair_tells_what_either_tells(rt: HostRuntime) {
         let mut tally = pair();
-        tally.add(Vote {
-            question: 2,
-            cell: 1,
-            quantity: 2000,
-        });
+        tally.add(vote(2, 1, 2000));
         assert_eq!(rt; tally.tell_figure(2, 1), Some(2000));
         assert_eq!(rt; tally.tell_figure(33, 1), None);
         assert_eq!(rt; tally.tell_total(), Some(4000));

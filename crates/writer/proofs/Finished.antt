@@ -7,7 +7,7 @@ use Rattle.fields.specs.Faults.{text_verdict}
 use Rattle.fields.specs.Fields.{fields, value_in, after}
 use Rattle.fields.specs.Laws.{Told}
 use Rattle.fields.proofs.Verdicts.{checked}
-use Rattle.sheet.specs.declared.rows.Row.{Row}
+use Rattle.sheet.specs.Rows.{Row}
 use Rattle.sheet.specs.Keys.{key_as, keys_of, row_has}
 use Rattle.sheet.specs.Lawful.{Lawful}
 use Rattle.sheet.specs.Laws.{Spells as SpellsKeys}

@@ -7,9 +7,9 @@ use Rattle.fields.specs.declared.headers.Qualifier.{Qualifier}
 use Rattle.fields.specs.Characters.{begins}
 use Rattle.fields.specs.Lines.{breaks, tail}
 use Rattle.fields.specs.Laws.{colon_line}
-use Rattle.sheet.specs.declared.rows.Row.{Row}
-use Rattle.sheet.specs.declared.rows.Row.TheVariants.{Open, Close, Field}
-use Rattle.sheet.specs.Rows.{name_of, qualifiers_of, is_qualifier, among, admits}
+use Rattle.sheet.specs.Rows.{Row}
+use Rattle.sheet.specs.Rows.Row.{Open, Close, Field}
+use Rattle.sheet.specs.Rows.{is_qualifier, among, admits}
 use Rattle.reader.specs.declared.table.Entry.{Entry}
 use Rattle.writer.specs.Entries.{part_in, inside, leading, qualifier_in, keyed, takes, good_entry, entry_from, entry_fault}
 use Rattle.writer.specs.Laws.{OneOf, BeginsWith, Begun, HasKey, Single, GoodEntry, AllGood, FirstBad}
@@ -91,14 +91,14 @@ begun_complete [] part h = refl
 begun_complete (x ∷ qs) part (q, o, b) = ap (admits (x ∷ qs)) (qualifier_led x qs part ∙ begun_by part q b) ∙ of_one q (x ∷ qs) o
 
 pub key_right : (r : Row) (part : List ℕ) → keyed r part ≡ true → HasKey r part
-key_right (Open m n) part h = sym ((bytes_eq-Decides (name_of n) part).0 h)
-key_right (Close n) part h = sym ((bytes_eq-Decides (name_of n) part).0 h)
-key_right (Field f) part h = begun_right (qualifiers_of f.qualifiers) part h
+key_right (Open m n) part h = sym ((bytes_eq-Decides n part).0 h)
+key_right (Close n) part h = sym ((bytes_eq-Decides n part).0 h)
+key_right (Field f) part h = begun_right f.qualifiers part h
 
 pub key_complete : (r : Row) (part : List ℕ) → HasKey r part → keyed r part ≡ true
-key_complete (Open m n) part h = (bytes_eq-Decides (name_of n) part).1 (sym h)
-key_complete (Close n) part h = (bytes_eq-Decides (name_of n) part).1 (sym h)
-key_complete (Field f) part h = begun_complete (qualifiers_of f.qualifiers) part h
+key_complete (Open m n) part h = (bytes_eq-Decides n part).1 (sym h)
+key_complete (Close n) part h = (bytes_eq-Decides n part).1 (sym h)
+key_complete (Field f) part h = begun_complete f.qualifiers part h
 
 -- does a colon stand directly behind a CR LF?
 breaks_at : (c : ℕ) (cs : List ℕ) → (breaks c cs && begins 58 (tail cs)) ≡ true → (b : List ℕ) × (c ∷ cs ≡ 13 ∷ 10 ∷ 58 ∷ b)

@@ -9,7 +9,7 @@ use Rattle.fields.specs.Faults.{text_verdict}
 use Rattle.fields.specs.Fields.{fields, after, value_in, spelled}
 use Rattle.fields.specs.Laws.{AllRight, Gapless, Told}
 use Rattle.fields.proofs.Verdicts.{checked}
-use Rattle.sheet.specs.declared.rows.Row.{Row}
+use Rattle.sheet.specs.Rows.{Row}
 use Rattle.sheet.specs.Keys.{key_of}
 use Rattle.sheet.specs.Lawful.{Lawful}
 use Rattle.sheet.proofs.Keyed.{only_row}

@@ -9,10 +9,10 @@ use Rattle.fields.specs.Characters.{digit, capital}
 use Rattle.fields.specs.Headers.{bare}
 use Rattle.fields.specs.Fields.{second}
 use Rattle.fields.specs.Laws.{colon_line, Keyed}
-use Rattle.sheet.specs.declared.rows.FieldRow.{FieldRow}
-use Rattle.sheet.specs.declared.rows.Row.{Row}
-use Rattle.sheet.specs.declared.rows.Row.TheVariants.{Open, Close, Field}
-use Rattle.sheet.specs.Rows.{name_of, qualifiers_of, is_tag, admits}
+use Rattle.sheet.specs.Rows.{FieldRow}
+use Rattle.sheet.specs.Rows.{Row}
+use Rattle.sheet.specs.Rows.Row.{Open, Close, Field}
+use Rattle.sheet.specs.Rows.{is_tag, admits}
 use Rattle.sheet.specs.Keys.{key_as, row_has}
 use Rattle.sheet.specs.Keys.Key.{opens, closes, names}
 use Rattle.sheet.specs.Lawful.{good_tag, good_qualifier, possible, Lawful}
@@ -27,7 +27,7 @@ use Rattle.writer.proofs.Items.{Item, RightItem, item_text}
 abbrev pub qualifier_for : Row → List ℕ → Option Qualifier
 qualifier_for (Open m n) part = None
 qualifier_for (Close n) part = None
-qualifier_for (Field f) part = qualifier_in (qualifiers_of f.qualifiers) part
+qualifier_for (Field f) part = qualifier_in f.qualifiers part
 
 abbrev pub item_in : Row → List ℕ → Item
 item_in r part = record { tag = tag_in r; qualifier = qualifier_for r part; value = part }
@@ -43,7 +43,7 @@ second_for (x ∷ qs) part h = ap second (one_admitted x qs (qualifier_in (x ∷
 second_is : (r : Row) (part : List ℕ) → keyed r part ≡ true → second (qualifier_for r part) ≡ second_in r
 second_is (Open m n) part h = refl
 second_is (Close n) part h = refl
-second_is (Field f) part h = second_for (qualifiers_of f.qualifiers) part h
+second_is (Field f) part h = second_for f.qualifiers part h
 
 pub item_spelled : (r : Row) (part : List ℕ) → keyed r part ≡ true → spelled_row r part ≡ item_text (item_in r part)
 item_spelled r part h =
@@ -96,7 +96,7 @@ module _ (rows : List Row) (law : Lawful rows) where
       let p = field_possible i f part e h in
       record {
         tag = (good_tag_lem f.tag (tag_of f.tag (qualifier_for (Field f) part) p)).0;
-        keyed = keyed_of f.tag (qualifiers_of f.qualifiers) part p;
+        keyed = keyed_of f.tag f.qualifiers part p;
         single = c;
       }
 
@@ -139,7 +139,7 @@ of_row r t q v h k = by r (is_tag t (49, 54, 82)) refl (is_tag t (49, 54, 83)) r
         → row_has r (cond b (opens v) (cond c (closes v) (names t q))) ≡ true → OfRow r t q v
     by (Open m n) true p c s h =
         record {
-          key = sym ((bytes_eq-Decides (name_of n) v).0 h);
+          key = sym ((bytes_eq-Decides n v).0 h);
           head = head_of t (49, 54, 82) (second q) [] (tag_same t (49, 54, 82) p) (block_none t (49, 54, 82) q v (tag_same t (49, 54, 82) p) refl k);
         }
     by (Open m n) false p true s h = absurd (false≢true h)
@@ -147,13 +147,13 @@ of_row r t q v h k = by r (is_tag t (49, 54, 82)) refl (is_tag t (49, 54, 83)) r
     by (Close n) true p c s h = absurd (false≢true h)
     by (Close n) false p true s h =
         record {
-          key = sym ((bytes_eq-Decides (name_of n) v).0 h);
+          key = sym ((bytes_eq-Decides n v).0 h);
           head = head_of t (49, 54, 83) (second q) [] (tag_same t (49, 54, 83) s) (block_none t (49, 54, 83) q v (tag_same t (49, 54, 83) s) refl k);
         }
     by (Close n) false p false s h = absurd (false≢true h)
     by (Field f) true p c s h = absurd (false≢true h)
     by (Field f) false p true s h = absurd (false≢true h)
     by (Field f) false p false s h =
-        let a = and_parts (is_tag t f.tag) (admits (qualifiers_of f.qualifiers) q) h in
-        let b = field_key (qualifiers_of f.qualifiers) t q v a.1 k in
+        let a = and_parts (is_tag t f.tag) (admits f.qualifiers q) h in
+        let b = field_key f.qualifiers t q v a.1 k in
         record { key = b.0; head = head_of t f.tag (second q) _ (tag_same t f.tag a.0) b.1 }

@@ -1,14 +1,12 @@
 -- Which entries can be spelled. Assumes nothing.
-use Rattle.std.specs.Prelude.{ℕ, suc, ◌-◌, Bool, false, cond, not, ◌&&◌, List, [], ◌∷◌, length, take, drop, Some, None, Option, ◌==◌, nat_le, nat_lt, slice_index}
+use Rattle.std.specs.Prelude.{ℕ, suc, ◌+◌, ◌-◌, Bool, false, cond, not, ◌&&◌, List, [], ◌∷◌, length, take, drop, Some, None, Option, ◌==◌, nat_le, nat_lt, slice_index}
 use Rattle.std.specs.List.{slice_get}
 use Rattle.std.specs.Str.{bytes_eq}
 use Rattle.fields.specs.declared.headers.Qualifier.{Qualifier}
-use Rattle.fields.specs.Characters.{begins}
-use Rattle.fields.specs.Lines.{breaks, tail}
 use Rattle.fields.specs.Laws.{colon_line}
-use Rattle.sheet.specs.declared.rows.Row.{Row}
-use Rattle.sheet.specs.declared.rows.Row.TheVariants.{Open, Close, Field}
-use Rattle.sheet.specs.Rows.{name_of, qualifiers_of, admits}
+use Rattle.sheet.specs.Rows.{Row}
+use Rattle.sheet.specs.Rows.Row.{Open, Close, Field}
+use Rattle.sheet.specs.Rows.{admits}
 use Rattle.reader.specs.declared.table.Entry.{Entry}
 
 -- the part of the bytes that the entry points to
@@ -30,14 +28,13 @@ qualifier_in qs part = cond (admits qs None) None (leading part)
 
 -- has the part the row's key? A 16R or 16S row wants its block's name, a row with qualifiers one of them and a slash, any other nothing.
 abbrev pub keyed : Row → List ℕ → Bool
-keyed (Open m n) part = bytes_eq (name_of n) part
-keyed (Close n) part = bytes_eq (name_of n) part
-keyed (Field f) part = admits (qualifiers_of f.qualifiers) (qualifier_in (qualifiers_of f.qualifiers) part)
+keyed (Open m n) part = bytes_eq n part
+keyed (Close n) part = bytes_eq n part
+keyed (Field f) part = admits f.qualifiers (qualifier_in f.qualifiers part)
 
--- does a CR LF with a colon behind it stand at the start?
-abbrev pub colon_here : List ℕ → Bool
-colon_here [] = false
-colon_here (c ∷ cs) = breaks c cs && begins 58 (tail cs)
+-- does a CR LF with a colon behind it stand at place k?
+abbrev pub colon_at : List ℕ → ℕ → Bool
+colon_at part k = slice_index part k == 13 && (slice_index part (k + 1) == 10 && slice_index part (k + 2) == 58)
 
 -- is there the row, and does it take the part: with its key, and no colon directly behind a CR LF?
 abbrev pub takes : Option Row → List ℕ → Bool

@@ -1,7 +1,7 @@
 -- Filing a text that was read: it is written again from the table that reading found. Assumes nothing.
 use Rattle.std.specs.Prelude.{◌≡◌, ℕ, ◌<◌, ◌≤◌, cond, List, ◌++◌, length, take, drop, Ok, Err, Result, nat_le}
 use Rattle.fields.specs.Fields.{fields}
-use Rattle.sheet.specs.declared.rows.Row.{Row}
+use Rattle.sheet.specs.Rows.{Row}
 use Rattle.reader.specs.declared.faults.ReadingFault.{ReadingFault}
 use Rattle.reader.specs.declared.table.Entry.{Entry}
 use Rattle.reader.specs.Reading.{Codes, read_verdict, table_after}

@@ -2,9 +2,8 @@
 use Rattle.std.specs.Prelude.{◌≡◌, ℕ, ◌+◌, ◌<◌, ◌≤◌, ◌⊎◌, List, [], ◌∷◌, ◌++◌, map, length, take, Some, Ok, Err, Result, ◌≢◌}
 use Rattle.std.specs.List.{slice_get}
 use Rattle.fields.specs.declared.headers.Qualifier.{Qualifier}
-use Rattle.sheet.specs.declared.rows.Row.{Row}
-use Rattle.sheet.specs.declared.rows.Row.TheVariants.{Open, Close, Field}
-use Rattle.sheet.specs.Rows.{name_of, qualifiers_of}
+use Rattle.sheet.specs.Rows.{Row}
+use Rattle.sheet.specs.Rows.Row.{Open, Close, Field}
 use Rattle.reader.specs.declared.faults.ReadingFault.TheVariants as RF
 use Rattle.reader.specs.declared.table.Entry.{Entry as TableEntry}
 use Rattle.reader.specs.Reading.{Codes, read_verdict}
@@ -32,9 +31,9 @@ Begun (q ∷ qs) part = (x : Qualifier) × OneOf x (q ∷ qs) × BeginsWith x pa
 
 -- the part has the row's key: it is the block's name; or begins with a qualifier of the row, if it has any, and a slash
 abbrev pub HasKey : Row → List ℕ → Type 0
-HasKey (Open m n) part = part ≡ name_of n
-HasKey (Close n) part = part ≡ name_of n
-HasKey (Field f) part = Begun (qualifiers_of f.qualifiers) part
+HasKey (Open m n) part = part ≡ n
+HasKey (Close n) part = part ≡ n
+HasKey (Field f) part = Begun f.qualifiers part
 
 -- nowhere does a colon stand directly behind a CR LF
 abbrev pub Single : List ℕ → Type 0

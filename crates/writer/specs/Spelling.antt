@@ -3,9 +3,9 @@ use Rattle.std.specs.Prelude.{ℕ, cond, List, [], ◌∷◌, ◌++◌, Some, No
 use Rattle.std.specs.List.{slice_get}
 use Rattle.fields.specs.declared.headers.Tag.{Tag}
 use Rattle.fields.specs.declared.headers.Qualifier.{Qualifier}
-use Rattle.sheet.specs.declared.rows.Row.{Row}
-use Rattle.sheet.specs.declared.rows.Row.TheVariants.{Open, Close, Field}
-use Rattle.sheet.specs.Rows.{qualifiers_of, admits}
+use Rattle.sheet.specs.Rows.{Row}
+use Rattle.sheet.specs.Rows.Row.{Open, Close, Field}
+use Rattle.sheet.specs.Rows.{admits}
 use Rattle.reader.specs.declared.table.Entry.{Entry}
 use Rattle.writer.specs.Entries.{part_in}
 
@@ -22,7 +22,7 @@ colon_for qs = cond (admits qs None) [] (58 ∷ [])
 abbrev pub second_in : Row → List ℕ
 second_in (Open m n) = []
 second_in (Close n) = []
-second_in (Field f) = colon_for (qualifiers_of f.qualifiers)
+second_in (Field f) = colon_for f.qualifiers
 
 -- colon, the row's tag, colon, a second colon where the row has qualifiers
 abbrev pub head_in : Row → List ℕ

@@ -1,16 +1,20 @@
 -- What writing answers, and what the output holds then. Assumes nothing.
 use Rattle.std.specs.Prelude.{◌≡◌, ℕ, cond, List, ◌++◌, length, drop, replicate, Some, None, Ok, Err, Option, Result, nat_le}
-use Rattle.sheet.specs.declared.rows.Row.{Row}
+use Rattle.sheet.specs.Rows.{Row}
 use Rattle.reader.specs.declared.faults.ReadingFault.{ReadingFault}
 use Rattle.reader.specs.declared.table.Entry.{Entry as TableEntry}
 use Rattle.reader.specs.Reading.{Codes, sentence_verdict}
 use Rattle.writer.specs.declared.faults.WritingFault.{WritingFault}
 use Rattle.writer.specs.declared.faults.WritingFault.TheVariants.{Entry, Output}
-use Rattle.writer.specs.declared.scratch.Scratch.{Scratch}
-use Rattle.writer.specs.Scratch.{written}
+use Rattle.short.specs.Short.{Short}
 use Rattle.writer.specs.Faults.{of_reading}
 use Rattle.writer.specs.Entries.{entry_fault}
 use Rattle.writer.specs.Spelling.{spelled_text}
+
+-- an entry that cannot be spelled is a fault
+abbrev pub entries_verdict : Option ℕ → Result (Unit {0}) WritingFault
+entries_verdict None = Ok tt
+entries_verdict (Some k) = Err (Entry k)
 
 -- a fault of an entry goes before one of the text spelled
 abbrev pub after_entries : Option ℕ → Result (Unit {0}) ReadingFault → Result (Unit {0}) WritingFault
@@ -24,9 +28,9 @@ spell_verdict rows codes entries bytes =
     after_entries (entry_fault rows bytes entries) (sentence_verdict rows codes (spelled_text rows bytes entries))
 
 -- so it is answered; and where all are answered yes, the text stands in the scratch
-abbrev pub Spells : List Row → Codes → List TableEntry → List ℕ → Result Scratch WritingFault → Type 0
+abbrev pub Spells : List Row → Codes → List TableEntry → List ℕ → Result (Short ℕ) WritingFault → Type 0
 Spells rows codes entries bytes (Ok scratch) =
-    (Ok tt ≡ spell_verdict rows codes entries bytes) × (written scratch ≡ spelled_text rows bytes entries)
+    (Ok tt ≡ spell_verdict rows codes entries bytes) × (scratch.items ≡ spelled_text rows bytes entries)
 Spells rows codes entries bytes (Err e) = Err e ≡ spell_verdict rows codes entries bytes
 
 -- and the last: does an output of so many bytes hold a text of this length?

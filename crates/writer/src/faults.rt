@@ -1,8 +1,11 @@
 // Why a text is not written.
 ghost use Rattle.std.specs.Prelude.{◌≡◌};
+ghost use Rattle.writer.specs.declared.faults.WritingFault.TheVariants.{MessageNumber as unknown, Length as too_long};
 ghost use Rattle.writer.specs.Faults.{number_of, place_of, of_reading};
 
 use reader::faults::ReadingFault;
+use sheets::standard::UnknownMessage;
+use short::short::Full;
 
 // The first question that a writing fails, with its place.
 #[derive(Clone, Copy, PartialEq, Eq, Debug)]
@@ -27,6 +30,7 @@ pub enum WritingFault {
 
 impl WritingFault {
     // The number of the question that is answered no.
+    // Stays a number: the rules name each question by it, and it is what a caller is told.
     pub fn number(self) -> u8
         ensures { result ≡ number_of self }
     {
@@ -57,7 +61,26 @@ impl WritingFault {
     }
 }
 
+// No sheet has the message number.
+impl From<UnknownMessage> for WritingFault {
+    ghost from_gives = { λ _ r. r ≡ unknown };
+
+    fn from(_fault: UnknownMessage) -> WritingFault {
+        WritingFault::MessageNumber
+    }
+}
+
+// The text spelled is longer than any may be.
+impl From<Full> for WritingFault {
+    ghost from_gives = { λ _ r. r ≡ too_long };
+
+    fn from(_fault: Full) -> WritingFault {
+        WritingFault::Length
+    }
+}
+
 // What the check of the text spelled finds. It never asks for a message number or a table.
+// Stays a list of variants: a fault of the reading is this fault with its own number and place, which callers name without the reading.
 impl From<ReadingFault> for WritingFault {
     ghost from_gives = { λ e r. r ≡ of_reading e };
 

@@ -1,6 +1,7 @@
 // Filing a text as it was sent.
 ghost use Rattle.std.specs.Prelude.{◌≡◌};
 ghost use Rattle.writer.specs.declared.filing.FilingFault.TheVariants.{Reading as by_reading, Writing as by_writing};
+ghost use Rattle.reader.specs.declared.faults.ReadingFault.TheVariants.{MessageNumber as unknown};
 ghost use Rattle.writer.specs.Filing.{Refiles};
 ghost use Rattle.sheets.specs.Standards.{sheet_of};
 ghost use Rattle.writer.specs.Numbers.{RefilesNumbered};
@@ -12,7 +13,7 @@ use reader::faults::ReadingFault;
 use reader::reading::read_by;
 use reader::table::Entry;
 use sheet::interface::Sheet;
-use sheets::standard::StandardSheet;
+use sheets::standard::{StandardSheet, UnknownMessage};
 
 // Why a text is not filed.
 #[derive(Clone, Copy, PartialEq, Eq, Debug)]
@@ -28,6 +29,15 @@ impl From<ReadingFault> for FilingFault {
 
     fn from(fault: ReadingFault) -> FilingFault {
         FilingFault::Reading(fault)
+    }
+}
+
+// No sheet has the message number, so the text is not read.
+impl From<UnknownMessage> for FilingFault {
+    ghost from_gives = { λ _ r. r ≡ by_reading unknown };
+
+    fn from(fault: UnknownMessage) -> FilingFault {
+        FilingFault::Reading(ReadingFault::from(fault))
     }
 }
 
@@ -49,10 +59,7 @@ pub fn refile_by<S: Sheet>(
 ) -> Result<usize, FilingFault>
     ensures { Refiles (S.rows sheet.now) (S.codes sheet.now) text.now table.old table.new out.old out.new result }
 {
-    let mut output = Output {
-        bytes: out,
-        finished: false,
-    };
+    let mut output = Output::over(out);
     let count = read_by(sheet, text, table)?;
     let len = write_by(sheet, &table[0..count], text, output.bytes)?;
     output.finished = true;
@@ -68,11 +75,9 @@ pub fn refile(
 ) -> Result<usize, FilingFault>
     ensures { RefilesNumbered (sheet_of number) text.now table.old table.new out.old out.new result }
 {
-    match StandardSheet::of(number) {
-        Some(sheet) => refile_by(&sheet, text, table, out),
-        None => {
-            out.fill(0);
-            Err(FilingFault::Reading(ReadingFault::MessageNumber))
-        }
-    }
+    let mut output = Output::over(out);
+    let sheet = StandardSheet::try_from(number)?;
+    let len = refile_by(&sheet, text, table, output.bytes)?;
+    output.finished = true;
+    Ok(len)
 }

@@ -1,13 +1,28 @@
 // The output of a writing.
-ghost use Rattle.std.specs.Prelude.{◌≡◌, ◌++◌, length, drop, replicate, if◌then◌else◌, nat_le};
+ghost use Rattle.std.specs.Prelude.{◌≡◌, false, ◌++◌, length, drop, replicate, if◌then◌else◌, nat_le};
 ghost use Rattle.writer.specs.Writing.{room_verdict};
 
 use crate::faults::WritingFault;
 
 // Guards the bytes of an output: unless the writing was finished, they are zeros throughout when the guard goes.
+// Stays a flag: only the drop asks it, and the bytes are there either way.
 pub(crate) struct Output<'a> {
     pub bytes: &'a mut [u8],
     pub finished: bool,
+}
+
+impl<'a> Output<'a> {
+    // The guard of these bytes. No writing is finished yet.
+    pub(crate) fn over(bytes: &'a mut [u8]) -> Output<'a>
+        ensures same_reference { result.bytes.ghost_name ≡ bytes.entry.ghost_name }
+        ensures bytes { result.bytes.now ≡ bytes.old }
+        ensures open { result.finished ≡ false }
+    {
+        Output {
+            bytes,
+            finished: false,
+        }
+    }
 }
 
 impl Drop for Output<'_> {

@@ -6,7 +6,7 @@ ghost use Rattle.sheets.specs.Standards.{sheet_of};
 ghost use Rattle.writer.specs.Laws.{Writes};
 ghost use Rattle.writer.specs.Numbers.{WritesNumbered};
 
-use crate::entries::entry_fault;
+use crate::entries::check_entries;
 use crate::faults::WritingFault;
 use crate::output::{Output, place_text};
 use crate::scratch::Scratch;
@@ -20,14 +20,10 @@ use sheets::standard::StandardSheet;
 fn spell<S: Sheet>(sheet: &S, entries: &[Entry], bytes: &[u8]) -> Result<Scratch, WritingFault>
     ensures { Spells (S.rows sheet.now) (S.codes sheet.now) entries.now bytes.now result }
 {
-    if let Some(index) = entry_fault(sheet, entries, bytes) {
-        return Err(WritingFault::Entry(index));
-    }
-    let mut scratch = Scratch::new();
-    if put_entries(&mut scratch, sheet, entries, bytes).is_none() {
-        return Err(WritingFault::Length);
-    }
-    check_sentence(sheet, scratch.text())?;
+    check_entries(sheet, entries, bytes)?;
+    let mut scratch = Scratch::new(0);
+    put_entries(&mut scratch, sheet, entries, bytes)?;
+    check_sentence(sheet, scratch.as_slice())?;
     Ok(scratch)
 }
 
@@ -41,12 +37,9 @@ fn write_guarded<S: Sheet>(
     ensures value { result ≡ write_verdict (S.rows sheet.now) (S.codes sheet.now) entries.now bytes.now (length out.old) }
     ensures output { out.new ≡ output_after (spelled_text (S.rows sheet.now) bytes.now entries.now) out.old result }
 {
-    let mut output = Output {
-        bytes: out,
-        finished: false,
-    };
+    let mut output = Output::over(out);
     let scratch = spell(sheet, entries, bytes)?;
-    let len = place_text(output.bytes, scratch.text())?;
+    let len = place_text(output.bytes, scratch.as_slice())?;
     output.finished = true;
     Ok(len)
 }
@@ -73,11 +66,9 @@ pub fn write(
 ) -> Result<usize, WritingFault>
     ensures { WritesNumbered (sheet_of number) entries.now bytes.now out.old out.new result }
 {
-    match StandardSheet::of(number) {
-        Some(sheet) => write_by(&sheet, entries, bytes, out),
-        None => {
-            out.fill(0);
-            Err(WritingFault::MessageNumber)
-        }
-    }
+    let mut output = Output::over(out);
+    let sheet = StandardSheet::try_from(number)?;
+    let len = write_by(&sheet, entries, bytes, output.bytes)?;
+    output.finished = true;
+    Ok(len)
 }

@@ -1,15 +1,10 @@
--- No vote that was passed is in the cell, so what is left decides.
-use Rattle.std.proofs.Common.{true, false, sym, ◌∙◌}
-use Rattle.std.proofs.lemmas.List.{at_drop_all}
-use Rattle.agenda.specs.Casting.{cast_in}
-use Rattle.agenda.proofs.CastingSteps.{cast_in_more}
+use Rattle.std.proofs.Common.{◌∙◌, rules, tests}
+use Rattle.std.proofs.lemmas.Iterator.{YieldsList-from_slice}
+use Rattle.std.proofs.lemmas.Iterator.Search.{any_from_yields_List}
+use Rattle.agenda.proofs.CastingSteps.{in_cell, cast_in_any}
 use Rattle.agenda.proofs.casting.is_taken.Goals as goal
 
-pub loop-vote-preserved : goal.loop-vote-preserved
-loop-vote-preserved c = sym (cast_in_more c.args.votes.now c.args.question c.args.cell c.loop-vote.vote-index _ false c.loop-vote-test.true c.if-is_cast_in.ensures) ∙ c.loop-vote.invariant
-
-pub returns-then-is_cast_in : goal.returns-then-is_cast_in
-returns-then-is_cast_in c = sym (cast_in_more c.args.votes.now c.args.question c.args.cell c.loop-vote.vote-index _ true c.loop-vote-test.true c.if-is_cast_in.ensures) ∙ c.loop-vote.invariant
-
 pub returns : goal.returns
-returns c = sym (at_drop_all (λ l. cast_in l c.args.question c.args.cell) c.args.votes.now c.loop-vote.vote-index c.loop-vote-test.false) ∙ c.loop-vote.invariant
+returns c =
+    any_from_yields_List (in_cell c.args.question c.args.cell) _ _ c.any.result c.any.ensures.ran (YieldsList-from_slice c.args.votes.now.items cc) (λ x b q k. search (rules, tests))
+    ∙ cast_in_any c.args.question c.args.cell c.args.votes.now.items

@@ -15,17 +15,8 @@ twice : (o : Option (Bor Standing)) → option_map (λ x. finding (instruction_o
 twice None = refl
 twice (Some x) = refl
 
-pub returns-in_default : goal.returns-in_default
-returns-in_default g c =
-    let ps = g.R.Register.pairs c.args.register.now in
-    record {
-      led = led_here g.R.Register c.args.register.now;
-      tells = λ o. record {
-        ordered = o;
-        same = refl;
-        answer = sym (ap (λ (b : Bool). cond b (option_map finding (in_record (meanings c.args.records.now) (look ps c.args.text.now))) None) c.in_default.ensures);
-      };
-    }
+pub returns-in_err-reference-clause-led : goal.returns-in_err-reference-clause-led
+returns-in_err-reference-clause-led g c = led_here g.R.Register c.args.register.now
 
 pub returns : goal.returns
 returns g c =
@@ -34,9 +25,9 @@ returns g c =
     let ps = g.R.Register.pairs c.args.register.now in
     let rs = meanings c.args.records.now in
     let q : List ℕ = c.args.text.now in
-    let a = c.in-Some.ensures in
+    let a = c.in_ok-reference.ensures in
     record {
-      led = led_by g.R.Register c.args.register.now (Find c.in-Some.reference) (Number n) c.look_up-number.new.register k.fixed k.ruled;
+      led = led_by g.R.Register c.args.register.now (Find c.in_ok-reference.reference) (Number n) c.look_up-number.new.register k.fixed k.ruled;
       tells = λ o. record {
         ordered = k.keeps o;
         same = alike_view ps (g.R.Register.pairs c.look_up-number.new.register) (k.finds o).same;

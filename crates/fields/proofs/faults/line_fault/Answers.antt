@@ -1,21 +1,16 @@
--- The loop's fault is the fault of all lines.
-use Rattle.std.proofs.Common.{sym, ◌∙◌}
-use Rattle.fields.proofs.Reading.{fault_on, fault_here, fault_rest, fault_end}
+-- The first bad line is the line at fault.
+use Rattle.std.proofs.Common.{rules, tests}
+use Rattle.std.proofs.lemmas.Iterator.Search.{find_from_yields_List}
+use Rattle.std.proofs.lemmas.Iterator.Consumers.{YieldsList-from_first}
+use Rattle.fields.specs.Lines.{lines}
+use Rattle.fields.specs.Faults.{bad_line}
+use Rattle.fields.specs.Placed.{placed_line, left_lines}
+use Rattle.fields.proofs.Reading.{fault_found}
 use Rattle.fields.proofs.faults.line_fault.Goals as goal
 
-pub returns-in_default : goal.returns-in_default
-returns-in_default c = sym (c.loop-start.invariant.1 ∙ fault_rest _ _ c.loop-start-test.true c.in_default.ensures)
-
-pub returns-then-not-is_good_line : goal.returns-then-not-is_good_line
-returns-then-not-is_good_line c =
-    sym (c.loop-start.invariant.1
-    ∙ fault_here _ _ c.in-Some.line.now c.in-Some.ensures c.if-not-is_good_line.ensures)
-
-pub loop-start-preserved : goal.loop-start-preserved
-loop-start-preserved c = (
-  c.in-Some.ensures.within,
-  c.loop-start.invariant.1 ∙ fault_on _ _ c.in-Some.line.now c.in-Some.ensures c.if-not-is_good_line.ensures,
-)
-
 pub returns : goal.returns
-returns c = sym (c.loop-start.invariant.1 ∙ fault_end _ _ c.loop-start-test.false)
+returns c =
+    let e =
+    find_from_yields_List bad_line c.find.new.self _ c.find.result c.find.ensures.ran
+    (YieldsList-from_first placed_line left_lines _ c.from_place.ensures) (λ x b q k. search (rules, tests)) in
+    fault_found (lines c.args.text.now) c.find.result c.map.result e (search (rules))

@@ -1,10 +1,7 @@
-use Rattle.std.proofs.Common.{◌≡◌, drop}
+use Rattle.std.proofs.Common.{◌≡◌, ◌-◌}
 use Rattle.format.specs.Simple.{is_lines}
 use Rattle.format.proofs.simple.is_lines.Given as goal
 
 -- the lines from here on are as right as all
-abbrev pub invariant-loop-left : goal.invariant-loop-left
-invariant-loop-left g l = let s = g.T.Text.chars l.text in is_lines l.left (drop l.at s) ≡ is_lines l.most s
-
-abbrev pub decreases-loop-left : goal.decreases-loop-left
-decreases-loop-left g l = l.left
+abbrev pub invariant-loop-line : goal.invariant-loop-line
+invariant-loop-line g l = let chars = g.T.Text.chars in is_lines (l.most - l._line) (chars l.lines) ≡ is_lines l.most (chars l.fn.text)

@@ -1,16 +1,15 @@
 -- What the entries found say is what the text says, and that is something.
-use Rattle.std.proofs.Common.{◌≡◌, true, false, is_some, sym, ap, ◌∙◌}
-use Rattle.std.proofs.lemmas.Bool.{false≢true}
-use Rattle.message.proofs.Outcome.{has_read}
+use Rattle.std.proofs.Common.{is_some, ap, ◌∙◌, rules}
+use Rattle.message.proofs.Outcome.{has_read, said_something}
 use Rattle.message.proofs.reading.read_message.Goals as goal
 
-pub unreachable-requires : goal.unreachable-requires
-unreachable-requires c =
+pub unwrap-requires : goal.unwrap-requires
+unwrap-requires c =
     let h = has_read c.args.number c.args.text.now c.args.table.now c.read.new.table c.in_ok-count.count c.in_ok-count.ensures in
-    let e : false ≡ true = ap is_some (c.in-None.ensures ∙ h.same) ∙ h.there in
-    absurd (false≢true e)
+    said_something c.decode.result (ap is_some (c.decode.ensures ∙ h.same) ∙ h.there)
 
 pub returns : goal.returns
 returns c =
     let h = has_read c.args.number c.args.text.now c.args.table.now c.read.new.table c.in_ok-count.count c.in_ok-count.ensures in
-    record { outcome = (c.in_ok-count.count, h.value, sym (c.in-Some.ensures ∙ h.same)); entries = h.entries }
+    let e = c.unwrap.ensures in
+    record { outcome = (c.in_ok-count.count, h.value, search (rules, e, h.same)); entries = h.entries }

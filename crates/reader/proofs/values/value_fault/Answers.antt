@@ -1,25 +1,18 @@
--- Each turn passes a field that fits, or stops at the first that does not.
-use Rattle.std.proofs.Common.{sym, ◌∙◌}
-use Rattle.fields.specs.Coming.{coming}
-use Rattle.reader.proofs.Faulting.{value_here, value_on, value_end}
+-- The first field that does not fit has the first value at fault.
+use Rattle.std.proofs.Common.{not, find, rules, tests, ◌∙◌, ap}
+use Rattle.std.proofs.lemmas.Iterator.Search.{find_from_yields_List}
+use Rattle.fields.proofs.Chains.{fields_yield}
+use Rattle.fields.specs.declared.walk.Field.{Field}
+use Rattle.fields.specs.Fields.{fields}
+use Rattle.reader.specs.Values.{field_fits}
+use Rattle.reader.proofs.Faulting.{value_found}
 use Rattle.reader.proofs.values.value_fault.Goals as goal
-
-pub returns-then-not-field_fits : goal.returns-then-not-field_fits
-returns-then-not-field_fits g c =
-    sym (c.loop-field.invariant
-    ∙ value_here (g.S.Sheet.rows c.args.sheet.now) (g.S.Sheet.codes c.args.sheet.now) c.args.text.now
-    (coming c.loop-field.field-iterator) (coming c.next.new.self) c.in-Some.field c.in-Some.ensures.steps
-    c.if-not-field_fits.ensures)
-
-pub loop-field-preserved : goal.loop-field-preserved
-loop-field-preserved g c =
-    c.loop-field.invariant
-    ∙ value_on (g.S.Sheet.rows c.args.sheet.now) (g.S.Sheet.codes c.args.sheet.now) c.args.text.now
-    (coming c.loop-field.field-iterator) (coming c.next.new.self) c.in-Some.field c.in-Some.ensures.steps
-    c.if-not-field_fits.ensures
 
 pub returns : goal.returns
 returns g c =
-    sym (c.loop-field.invariant
-    ∙ value_end (g.S.Sheet.rows c.args.sheet.now) (g.S.Sheet.codes c.args.sheet.now) c.args.text.now
-    (coming c.loop-field.field-iterator) c.in-None.ensures.steps.0)
+    let rows = g.S.Sheet.rows c.args.sheet.now in
+    let codes = g.S.Sheet.codes c.args.sheet.now in
+    let unfit = λ (f : Field). not (field_fits rows codes c.args.text.now f) in
+    let e =
+    find_from_yields_List unfit c.find.new.self _ c.find.result c.find.ensures.ran (fields_yield _) (λ x b q k. search (rules, tests)) in
+    value_found rows codes c.args.text.now (fields c.args.text.now) c.find.result c.map.result (e ∙ ap (find unfit) c.of.ensures.all) (search rules)

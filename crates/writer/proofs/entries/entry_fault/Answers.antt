@@ -1,18 +1,18 @@
--- The loop's fault is the fault of all entries.
-use Rattle.std.proofs.Common.{sym, ◌∙◌}
-use Rattle.writer.proofs.Asked.{entry_here, entry_on, entry_end}
+-- The first entry that is not good is the entry at fault.
+use Rattle.std.proofs.Common.{not, ◌∙◌, rules, tests}
+use Rattle.std.proofs.lemmas.Iterator.{YieldsList-from_slice}
+use Rattle.std.proofs.lemmas.Iterator.Adapters.{position_from-zero}
+use Rattle.std.proofs.lemmas.Iterator.Search.{position_from_yields_List}
+use Rattle.reader.specs.declared.table.Entry.{Entry}
+use Rattle.writer.specs.Entries.{good_entry}
+use Rattle.writer.proofs.Asked.{entry_by}
 use Rattle.writer.proofs.entries.entry_fault.Goals as goal
-
-pub returns-then-not-is_good_entry : goal.returns-then-not-is_good_entry
-returns-then-not-is_good_entry g c =
-    sym (c.loop-i.invariant
-    ∙ entry_here (g.S.Sheet.rows c.args.sheet.now) c.args.bytes.now _ _ _ c.loop-i-test.true c.if-not-is_good_entry.ensures)
-
-pub loop-i-preserved : goal.loop-i-preserved
-loop-i-preserved g c =
-    c.loop-i.invariant
-    ∙ entry_on (g.S.Sheet.rows c.args.sheet.now) c.args.bytes.now _ _ _ c.loop-i-test.true c.if-not-is_good_entry.ensures
 
 pub returns : goal.returns
 returns g c =
-    sym (c.loop-i.invariant ∙ entry_end (g.S.Sheet.rows c.args.sheet.now) c.args.bytes.now _ _ c.loop-i-test.false)
+    let rows = g.S.Sheet.rows c.args.sheet.now in
+    let bytes = c.args.bytes.now in
+    let bad = λ (e : Entry). not (good_entry rows bytes e) in
+    position_from_yields_List bad c.position.new.self _ c.position.result c.position.ensures.ran
+    (YieldsList-from_slice c.args.entries.now cc) (λ x b q k. search (rules, tests))
+    ∙ position_from-zero bad c.args.entries.now ∙ entry_by rows bytes 0 c.args.entries.now

@@ -1,24 +1,19 @@
 -- The characters end at the first zero.
-use Rattle.std.proofs.Common.{◌≡◌, ◌-◌, ◌<◌, length, take, arith}
-use Rattle.register.specs.Texts.{unpadded}
-use Rattle.register.proofs.Padding.{unpadded_more, unpadded_end, unpadded_all, text_held}
+use Rattle.std.proofs.Common.{◌≡◌, rules, tests, arith}
+use Rattle.std.proofs.lemmas.Iterator.{IsFirst-from_position, YieldsList-from_slice}
+use Rattle.register.proofs.Padding.{first_zero, no_zero, text_held}
 use Rattle.register.proofs.reference.Reference.as_bytes.Goals as goal
-use Rattle.register.proofs.reference.Reference.as_bytes.Goals.{then-loop-n-test+else-self-n-ne0, else-loop-n-test}
 
-pub loop-n-preserved : goal.loop-n-preserved
-loop-n-preserved c =
+pub returns-in-Some : goal.returns-in-Some
+returns-in-Some c =
     let bs = c.args.self.now.bytes in
-    let lt : c.loop-n.n < length bs = omega arith in
-    (omega arith, unpadded_more bs c.loop-n.n lt c.if-self-n-ne0.true c.loop-n.invariant.1)
+    let first = IsFirst-from_position _ _ _ (λ b. b ≡ 0) (λ b. b ≡ 0 → ⊥) c.in-Some.ensures.ran (YieldsList-from_slice bs cc) (λ x q k. search (rules, tests)) (λ x q k. search (rules, tests)) in
+    let is = first_zero bs c.in-Some.n first.0 (first.1 0) (λ k l. first.2 k 0 (omega arith) l) in
+    (is, rw is (text_held bs (omega arith) c.args.self.now.ok))
 
-pub returns : goal.returns
-returns c =
+pub returns-in-None : goal.returns-in-None
+returns-in-None c =
     let bs = c.args.self.now.bytes in
-    let n = c.loop-n.n in
-    let len : length bs ≡ 16 = omega arith in
-    let z : n - 0 ≡ n = omega arith in
-    let e : take n bs ≡ unpadded bs = elim c.loop-n-test.branch [
-      | then-loop-n-test+else-self-n-ne0 w ↦ unpadded_end bs n (omega arith) w.if-self-n-ne0.false c.loop-n.invariant.1
-      | else-loop-n-test w ↦ unpadded_all bs n (omega arith) c.loop-n.invariant.1
-    ] in
-    (rw (z, e), rw (z, e) (text_held bs len c.args.self.now.ok))
+    let none = IsFirst-from_position _ _ _ (λ b. b ≡ 0) (λ b. b ≡ 0 → ⊥) c.in-None.ensures.ran (YieldsList-from_slice bs cc) (λ x q k. search (rules, tests)) (λ x q k. search (rules, tests)) in
+    let is = no_zero bs (λ k l. none k 0 (omega arith) l) in
+    (is, rw is (text_held bs (omega arith) c.args.self.now.ok))

@@ -4,4 +4,4 @@ use Rattle.tally.proofs.Figures.{emptied}
 use Rattle.tally.proofs.ballot.Ballot.new.Goals as goal
 
 pub returns : goal.returns
-returns c = ap figures c.new.ensures ∙ emptied 512
+returns c = ap figures c.new.ensures ∙ emptied 32 16

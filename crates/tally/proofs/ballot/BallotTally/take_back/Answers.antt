@@ -10,5 +10,5 @@ returns c =
       scale = refl;
       value = ap figures c.shift.ensures.after
           ∙ ap (λ (n : ℕ). figures (shifted c.args.self.now.cells.numbers c.args.vote.question c.args.vote.cell n)) c.opposite.ensures
-          ∙ taking_back c.args.vote c.args.self.now.cells.numbers fits c.shift.ensures.room;
+          ∙ taking_back c.args.vote c.args.self.now.cells.numbers fits c.shift.ensures.within;
     }

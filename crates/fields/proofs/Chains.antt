@@ -1,0 +1,11 @@
+-- What chains over the fields of a text are proved from. Assumes nothing.
+use Rattle.std.proofs.Common.{length, ap}
+use Rattle.std.proofs.lemmas.Iterator.{YieldsList}
+use Rattle.std.proofs.lemmas.Iterator.Consumers.{YieldsList-from_shown}
+use Rattle.fields.specs.declared.walk.Field.{Field}
+use Rattle.fields.specs.declared.walk.Fields.{Fields}
+use Rattle.fields.specs.Coming.{coming, gives}
+
+-- the iterator gives what is coming
+pub fields_yield : (s : Fields) → YieldsList gives (λ (f : Field). f) s (coming s)
+fields_yield s = YieldsList-from_shown gives (λ (f : Field). f) coming (λ s t e. ap length e.0) (λ s x t e. e) s

@@ -1,0 +1,9 @@
+use Rattle.std.proofs.Common.{◌∙◌, eqb, rules, tests}
+use Rattle.std.proofs.lemmas.Iterator.{YieldsList-from_slice}
+use Rattle.std.proofs.lemmas.Iterator.Search.{find_from_yields_List}
+use Rattle.message.proofs.values.ReadText.first_entry.Goals as goal
+
+pub returns : goal.returns
+returns c =
+    c.copied.ensures
+    ∙ find_from_yields_List (λ e. eqb e.row c.args.row) _ _ c.find.result c.find.ensures.ran (YieldsList-from_slice c.args.self.entries.now cc) (λ x b q k. search (rules, tests))

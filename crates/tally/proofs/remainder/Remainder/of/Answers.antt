@@ -1,6 +1,0 @@
-use Rattle.tally.specs.Control.{control_modulus}
-use Rattle.tally.specs.Residues.{same}
-use Rattle.tally.proofs.remainder.Remainder.of.Goals as goal
-
-pub returns : goal.returns
-returns c = same control_modulus _ _ c.reduced.ensures
