@@ -80,6 +80,7 @@ fn first_bad_byte(text: &[u8]) -> Option<usize>
 }
 
 // Is every byte one that may stand in a text?
+#[tactic(auto, using(crate::proofs::Alphabet::alphabet_some, crate::proofs::Alphabet::alphabet_none))]
 fn check_characters(text: &[u8]) -> Result<(), TextFault>
     ensures { result ≡ fault_at TextFault.Character (alphabet_fault text.now) (Ok tt) }
 {

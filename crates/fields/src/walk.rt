@@ -107,6 +107,7 @@ impl Iterator for Fields<'_> {
 }
 
 // How many fields a text has.
+#[tactic(auto, using(crate::proofs::Chains::fields_counted))]
 pub fn field_count(text: &[u8]) -> usize
     ensures { result ≡ length (all_fields text.now) }
 {

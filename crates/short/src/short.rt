@@ -103,6 +103,7 @@ impl<T: Copy, const N: usize> Short<T, N> {
     }
 
     // Puts an item before the others. Where the list is full, that puts out the last.
+    #[tactic(auto, using(crate::proofs::Gaps::opened))]
     pub fn push_front(&mut self, item: T)
         ensures { self.new.items ≡ take N (item ∷ self.old.items) }
     {
