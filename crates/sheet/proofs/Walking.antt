@@ -1,9 +1,10 @@
 -- The rows from a number on, one step further. Assumes nothing.
-use Rattle.std.proofs.Common.{◌≡◌, ℕ, ◌+◌, ◌<◌, ◌≤◌, Bool, true, List, [], ◌∷◌, length, drop, cond, Some, None, Option, ap, ◌∙◌, add-one, sym, refl, arith, length-drop}
+use Rattle.std.proofs.Common.{◌≡◌, ℕ, ◌+◌, ◌<◌, ◌≤◌, Bool, true, List, [], ◌∷◌, length, drop, false, cond, find, option_map, Some, None, Option, ap, ◌∙◌, add-one, sym, refl, arith, length-drop}
 use Rattle.std.proofs.lemmas.List.FromFn.{length-enumerate_from}
 use Rattle.std.specs.List.{slice_get, enumerate_from, position_from}
 use Rattle.sheet.specs.Rows.{Row}
-use Rattle.sheet.specs.Coming.{numbered}
+use Rattle.sheet.specs.declared.rows.Row.{Row as KeptRow}
+use Rattle.sheet.specs.Coming.{numbered, number_and_row}
 use Rattle.sheet.specs.Lawful.{lawful}
 use Rattle.sheet.proofs.Scans.{at_row, row_within, past_rows}
 use Rattle.sheet.proofs.Keyed.{law_few}
@@ -33,3 +34,19 @@ numbered_few rows l i = let f = law_few rows l in omega (arith, length-enumerate
 pub numbered_position : (t : Row → Bool) (n k : ℕ) (rs : List Row) → position_from (λ (p : ℕ × Row). t p.1) n (enumerate_from k rs) ≡ position_from t n rs
 numbered_position t n k [] = refl
 numbered_position t n k (r ∷ rs) = ap (λ (o : Option ℕ). cond (t r) (Some n) o) (numbered_position t (n + 1) (k + 1) rs)
+
+-- the number of the first row that is found among the numbered ones is its place
+pub numbered_found : (test : Row → Bool) (k : ℕ) (rs : List Row) → option_map (λ (p : ℕ × Row). p.0) (find (λ (p : ℕ × Row). test p.1) (enumerate_from k rs)) ≡ position_from test k rs
+numbered_found test k [] = refl
+numbered_found test k (r ∷ rs) = by (test r) (numbered_found test (k + 1) rs)
+  where
+    by : (b : Bool) → option_map (λ (p : ℕ × Row). p.0) (find (λ (p : ℕ × Row). test p.1) (enumerate_from (k + 1) rs)) ≡ position_from test (k + 1) rs
+        → option_map (λ (p : ℕ × Row). p.0) (cond b (Some (k, r)) (find (λ (p : ℕ × Row). test p.1) (enumerate_from (k + 1) rs))) ≡ cond b (Some k) (position_from test (k + 1) rs)
+    by true e = refl
+    by false e = e
+
+-- what is told of the row that is found is its number
+pub numbered_told : (o : Option (ℕ × KeptRow)) (r : Option ℕ) (s : Option (ℕ × Row)) → option_map number_and_row o ≡ s → r ≡ option_map (λ (p : ℕ × KeptRow). p.0) o
+    → r ≡ option_map (λ (p : ℕ × Row). p.0) s
+numbered_told None r s e h = h ∙ ap (option_map (λ (p : ℕ × Row). p.0)) e
+numbered_told (Some p) r s e h = h ∙ ap (option_map (λ (p : ℕ × Row). p.0)) e

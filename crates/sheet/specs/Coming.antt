@@ -1,7 +1,7 @@
 -- What an iterator over the rows of a sheet has yet to give. Assumes nothing.
 use Rattle.std.specs.Prelude.{ℕ, List, drop}
 use Rattle.std.specs.List.{enumerate_from}
-use Rattle.sheet.specs.declared.rows.Row.{Row as LentRow}
+use Rattle.sheet.specs.declared.rows.Row.{Row as KeptRow}
 use Rattle.sheet.specs.declared.walk.Rows.{Rows}
 use Rattle.sheet.specs.Rows.{Row, row_of}
 
@@ -14,5 +14,5 @@ abbrev pub coming : {S : Type 0} → (S → List Row) → Rows S → List (ℕ �
 coming rows s = numbered s.at (rows s.sheet.now)
 
 -- what an item says
-abbrev pub number_and_row : ℕ × LentRow → ℕ × Row
+abbrev pub number_and_row : ℕ × KeptRow → ℕ × Row
 number_and_row p = (p.0, row_of p.1)

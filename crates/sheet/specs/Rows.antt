@@ -1,13 +1,23 @@
 -- What the rows of a sheet are, and the parts of a row. Assumes nothing.
-use Rattle.std.specs.Prelude.{ℕ, Bool, ◌&&◌, List, length, Some, None, Option, ◌==◌}
+use Rattle.std.specs.Prelude.{ℕ, min, Bool, ◌&&◌, List, length, take, Some, None, Option, ◌==◌}
 use Rattle.std.specs.List.{list_any}
 use Rattle.fields.specs.declared.headers.Tag.{Tag}
 use Rattle.fields.specs.declared.headers.Qualifier.{Qualifier}
 use Rattle.sheet.specs.declared.marks.Mark.{Mark}
 use Rattle.sheet.specs.declared.rows.Format.{Format}
-use Rattle.sheet.specs.declared.rows.FieldRow.{FieldRow as LentFieldRow}
-use Rattle.sheet.specs.declared.rows.Row.{Row as LentRow}
-use Rattle.sheet.specs.declared.rows.Row.TheVariants.{Open as LentOpen, Close as LentClose, Field as LentField}
+use Rattle.sheet.specs.declared.rows.BlockName.{BlockName}
+use Rattle.sheet.specs.declared.rows.Qualifiers.{Qualifiers}
+use Rattle.sheet.specs.declared.rows.FieldRow.{FieldRow as KeptFieldRow}
+use Rattle.sheet.specs.declared.rows.Row.{Row as KeptRow}
+use Rattle.sheet.specs.declared.rows.Row.TheVariants.{Open as KeptOpen, Close as KeptClose, Field as KeptField}
+
+-- the name of a block
+abbrev pub name_of : BlockName → List ℕ
+name_of n = take (min n.len 8) n.bytes
+
+-- the qualifiers of a row
+abbrev pub qualifiers_of : Qualifiers → List Qualifier
+qualifiers_of q = take (min q.count 9) q.items
 
 -- the row of a field
 pub record FieldRow : Type 0 where
@@ -22,14 +32,14 @@ pub data Row : Type 0 where
   Close : List ℕ → Row
   Field : FieldRow → Row
 
--- the row that a program's row, which borrows its name or its qualifiers, says
-abbrev pub field_row_of : LentFieldRow → FieldRow
-field_row_of f = record { mark = f.mark; tag = f.tag; qualifiers = f.qualifiers.now; format = f.format }
+-- the row that a program's row, which keeps its name or its qualifiers in a few places, says
+abbrev pub field_row_of : KeptFieldRow → FieldRow
+field_row_of f = record { mark = f.mark; tag = f.tag; qualifiers = qualifiers_of f.qualifiers; format = f.format }
 
-abbrev pub row_of : LentRow → Row
-row_of (LentOpen m n) = Open m n.now
-row_of (LentClose n) = Close n.now
-row_of (LentField f) = Field (field_row_of f)
+abbrev pub row_of : KeptRow → Row
+row_of (KeptOpen m n) = Open m (name_of n)
+row_of (KeptClose n) = Close (name_of n)
+row_of (KeptField f) = Field (field_row_of f)
 
 -- is it the same tag, the same qualifier?
 abbrev pub is_tag : Tag → Tag → Bool

@@ -33,5 +33,7 @@ pub fn find_row<S: Sheet>(sheet: &S, key: Key<'_>) -> Option<usize>
     ensures found { Found (S.rows sheet.now) (key_from key.entry) result }
     ensures law { LawTested }
 {
-    Rows::of(sheet).position(|(_, row)| row.has_key(key))
+    Rows::of(sheet)
+        .find(|(_, row)| row.has_key(key))
+        .map(|(number, _)| number)
 }

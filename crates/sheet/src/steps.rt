@@ -8,9 +8,9 @@ use crate::rows::Row;
 use crate::walk::Rows;
 
 // How many blocks are open behind `row`, where `depth` are before it and are being passed over. None where it may not be passed over.
-fn passed(depth: usize, row: Row<'_>) -> Option<usize>
+fn passed(depth: usize, row: Row) -> Option<usize>
     requires { depth < 64 }
-    ensures { result ≡ passing depth (row_of row.entry) }
+    ensures { result ≡ passing depth (row_of row) }
 {
     match row {
         Row::Open(mark, _) => (depth > 0 || mark.may_miss()).then_some(depth + 1),

@@ -31,14 +31,14 @@ impl<'a, S: Sheet> Rows<'a, S> {
 }
 
 impl<'a, S: Sheet> Iterator for Rows<'a, S> {
-    type Item = (usize, Row<'a>);
+    type Item = (usize, Row);
 
     ghost next_gives = { YieldsFirstBy number_and_row (coming S.rows) };
 
     ghost remaining = { item_count (coming S.rows) };
 
     #[tactic(auto, using(crate::proofs::Walking::numbered_read))]
-    fn next(&mut self) -> Option<(usize, Row<'a>)> {
+    fn next(&mut self) -> Option<(usize, Row)> {
         let at = self.at;
         let row = self.sheet.row(at)?;
         self.at += 1;

@@ -1,12 +1,14 @@
 // The sheets of the standard's two messages, chosen by the message number.
 ghost use Rattle.std.specs.Prelude.{◌≡◌, map};
+ghost use Rattle.std.specs.List.{slice_get};
 ghost use Rattle.std.specs.Result.{result_ok};
-ghost use Rattle.sheet.specs.Rows.{row_of};
+ghost use Rattle.sheets.specs.Kept.{kept_of};
+ghost use Rattle.sheets.specs.Lines.{row_in};
 ghost use Rattle.sheets.specs.Standards.{sheet_of, rows_of, functions, codes_of, allowed as may_stand};
 ghost use Rattle.sheets.specs.Lawful.{all_lawful};
 
 use crate::codes::{INSTRUCTION_FUNCTIONS, STATUS_FUNCTIONS, is_among, stands_under};
-use crate::tables::{INSTRUCTION_ROWS, STATUS_ROWS};
+use crate::tables::{INSTRUCTION_ROWS, Line, STATUS_ROWS};
 use fields::headers::Qualifier;
 use sheet::interface::Sheet;
 use sheet::rows::{Format, Row};
@@ -21,14 +23,21 @@ pub enum StandardSheet {
 }
 
 impl StandardSheet {
-    // The rows of the sheet.
-    fn rows(self) -> &'static [Row<'static>]
-        ensures { map row_of result.now ≡ rows_of self }
+    // The rows of the sheet, as its table has them.
+    fn lines(self) -> &'static [Line]
+        ensures { map row_in result.now ≡ kept_of self }
     {
         match self {
             StandardSheet::Mt565 => INSTRUCTION_ROWS,
             StandardSheet::Mt567 => STATUS_ROWS,
         }
+    }
+
+    // The row of this number, from 0. None past the last.
+    fn kept_row(self, i: usize) -> Option<Row>
+        ensures { result ≡ slice_get (kept_of self) i }
+    {
+        self.lines().get(i).map(|line| line.row())
     }
 
     // The codes of 23G, which has no qualifier.
@@ -74,16 +83,19 @@ impl TryFrom<u16> for StandardSheet {
 impl Sheet for StandardSheet {
     ghost rows = { rows_of };
 
+    ghost kept = { kept_of };
+
     ghost codes = { codes_of };
 
     ghost lawful = { all_lawful };
 
     fn len(&self) -> usize {
-        self.rows().len()
+        self.lines().len()
     }
 
-    fn row(&self, i: usize) -> Option<Row<'_>> {
-        self.rows().get(i).copied()
+    #[tactic(auto, using(crate::proofs::Meant::row_meant))]
+    fn row(&self, i: usize) -> Option<Row> {
+        self.kept_row(i)
     }
 
     fn has_code(&self, row: usize, qualifier: Option<Qualifier>, code: &[u8]) -> bool {

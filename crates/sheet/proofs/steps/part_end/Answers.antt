@@ -5,8 +5,8 @@ use Rattle.sheet.proofs.steps.part_end.Goals as goal
 
 pub overflow_add-first : goal.overflow_add-first
 overflow_add-first g c =
-    let s = row_small (g.S.Sheet.rows c.args.sheet.now) (g.S.Sheet.lawful c.args.sheet.now) _ _ c.in-Some-Open.ensures in
+    let s = row_small (g.S.Sheet.rows c.args.sheet.now) (g.S.Sheet.lawful c.args.sheet.now) _ _ c.in-Some-Open.ensures.means in
     omega arith
 
 pub block_end-requires : goal.block_end-requires
-block_end-requires g c = let s = row_within (g.S.Sheet.rows c.args.sheet.now) _ _ c.in-Some-Open.ensures in omega arith
+block_end-requires g c = let s = row_within (g.S.Sheet.rows c.args.sheet.now) _ _ c.in-Some-Open.ensures.means in omega arith
