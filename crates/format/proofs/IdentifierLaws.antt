@@ -157,3 +157,17 @@ parts_found v t b c k f e q =
     meaning true q d =
         ap {B = Option Identifier} (λ (x : List ℕ). Some (record { issuer = b; code = c; country = k; text = x })) d ∙ sym (cond-true _ _ None (sym q))
     meaning false q d = sym (cond-false _ (Some (record { issuer = b; code = c; country = k; text = t })) None (sym q))
+
+-- what is read is in range, and the value is its spelling
+pub identifier_in_lem : (v : List ℕ) (p : IdentifierParts) → read_identifier v ≡ Some p → InIdentifier (meant v p) × (v ≡ identifier_text (meant v p))
+identifier_in_lem v p e = by (identifier_in v) (right v) e
+  where
+    by : (o : Option Identifier) → IfSome o (Meant v) → option_map parts_of o ≡ Some p → InIdentifier (meant v p) × (v ≡ identifier_text (meant v p))
+    by None h q = let f : ◌≡◌ {A = ℕ} 0 1 = cc in absurd (omega arith)
+    by (Some m) h q =
+        let t : drop (cond m.issuer 18 14) v ≡ m.text =
+        ap (drop (cond m.issuer 18 14)) h.1 ∙ text_of m.issuer m.code m.country m.text h.0.0 h.0.1 in
+        let x : m ≡ meant v (parts_of m) =
+        ap {B = Identifier} (λ (y : List ℕ). record { issuer = m.issuer; code = m.code; country = m.country; text = y }) (sym t) in
+        let y : parts_of m ≡ p = cc in
+        subst (Meant v) (x ∙ ap (meant v) y) h

@@ -1,5 +1,5 @@
 -- A quantity that is read is one that is spelled, and back. Assumes nothing.
-use Rattle.std.proofs.Common.{◌≡◌, ℕ, ◌<◌, Bool, true, false, leb, List, [], ◌∷◌, ◌++◌, IfSome, Some, None, codes, decimal, Option, sym, refl, ap, ◌∙◌, arith}
+use Rattle.std.proofs.Common.{◌≡◌, ℕ, ◌^◌, ◌<◌, Bool, true, false, leb, List, [], ◌∷◌, ◌++◌, IfSome, Some, None, codes, decimal, Option, sym, refl, ap, ◌∙◌, arith}
 use Rattle.std.proofs.lemmas.Bool.{le-leb, leb-true, cond-true}
 use Rattle.format.specs.Texts.{after_word}
 use Rattle.format.specs.Numbers.{number}
@@ -34,3 +34,10 @@ quantity_decoded = decoded InQuantity quantity_text read_quantity right complete
 
 pub quantity_once : Once InQuantity quantity_text
 quantity_once = once InQuantity quantity_text read_quantity complete
+
+-- what is read is in range
+pub quantity_in_lem : (v : List ℕ) (n : ℕ) → read_quantity v ≡ Some n → InQuantity n
+quantity_in_lem v n e = (quantity_decoded v (Some n) (sym e)).0
+
+pub quantity_fits : (v : List ℕ) (n : ℕ) → read_quantity v ≡ Some n → n < 2 ^ 64
+quantity_fits v n e = omega (arith, (quantity_in_lem v n e).1)

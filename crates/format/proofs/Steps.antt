@@ -1,5 +1,5 @@
 -- One character more of a word, a run or a number, for the loops that read them. Assumes nothing.
-use Rattle.std.proofs.Common.{◌≡◌, ℕ, zero, suc, ◌+◌, ◌-◌, ◌*◌, ◌^◌, ◌<◌, ◌≤◌, Bool, true, false, cond, leb, List, [], ◌∷◌, length, drop, Some, None, Option, sym, refl, ap, ◌∙◌, ap₂, mul-le-mul_right, mul_assoc, mul-le-mul_left, arith}
+use Rattle.std.proofs.Common.{◌≡◌, ℕ, zero, suc, ◌+◌, ◌-◌, ◌*◌, ◌^◌, ◌<◌, ◌≤◌, Bool, true, false, cond, eqb, leb, List, [], ◌∷◌, ◌++◌, length, drop, Some, None, Option, sym, refl, ap, ◌∙◌, ap₂, mul-le-mul_right, mul_assoc, mul-le-mul_left, arith}
 use native.Mathlib.Nat.{pow-succ', pow-le-pow_right}
 use Rattle.std.proofs.lemmas.Option.{none-some}
 use Rattle.std.proofs.lemmas.List.{drop_more}
@@ -27,6 +27,17 @@ first_some k (d ∷ s) c t e = by (k d) refl e
 -- where a word goes on, and the text does not
 pub word_ends : (w s : List ℕ) (i : ℕ) → i < length w → s ≡ [] → None ≡ after_word (drop i w) s
 word_ends w s i h e = sym (ap₂ after_word (drop_more w i 0 h) e)
+
+-- a word in two parts, one behind the other
+pub word_parts : (w u s : List ℕ) → after_word (w ++ u) s ≡ and_then (after_word w s) (after_word u)
+word_parts [] u s = refl
+word_parts (c ∷ w) u [] = refl
+word_parts (c ∷ w) u (x ∷ s) = by (eqb x c) (word_parts w u s)
+  where
+    by : (b : Bool) → after_word (w ++ u) s ≡ and_then (after_word w s) (after_word u)
+        → cond b (after_word (w ++ u) s) None ≡ and_then (cond b (after_word w s) None) (after_word u)
+    by true h = h
+    by false h = refl
 
 pub number_first : (k c : ℕ) (s t : List ℕ) → Some (c, t) ≡ first_of (between 49 57) s → number_on (k - 1) (c - 48) t ≡ number k s
 number_first k c s t e = let f = first_some (between 49 57) s c t e in sym (ap (number k) f.0 ∙ cond-true _ _ _ f.1)

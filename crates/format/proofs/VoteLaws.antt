@@ -1,5 +1,5 @@
 -- A vote that is read is one that is spelled, and back. Assumes nothing.
-use Rattle.std.proofs.Common.{◌≡◌, ℕ, ◌<◌, Bool, true, false, cond, List, [], ◌∷◌, ◌++◌, get_or, IfSome, Some, None, codes, decimal, Option, sym, refl, ap, ◌∙◌, append-nil, arith}
+use Rattle.std.proofs.Common.{◌≡◌, ℕ, ◌^◌, ◌<◌, ◌≤◌, Bool, true, false, cond, List, [], ◌∷◌, ◌++◌, get_or, IfSome, Some, None, codes, decimal, Option, sym, refl, ap, ◌∙◌, subst, append-nil, arith}
 use Rattle.std.proofs.lemmas.Fmt.{first_decimal}
 use Rattle.std.proofs.lemmas.Bool.{ne_eqb, cond-true, cond-false}
 use Rattle.format.specs.declared.votes.VoteKind.{VoteKind}
@@ -11,10 +11,10 @@ use Rattle.fields.specs.Characters.{begins}
 use Rattle.format.specs.Texts.{or_else, after_word, stands_for}
 use Rattle.format.specs.Numbers.{InDigits, number}
 use Rattle.format.specs.Folding.{folded, unfolded, is_folded}
-use Rattle.format.specs.Vote.{InCandidate, InVote, candidate_text, kind_text, answer_text, vote_flat, vote_spelled, given, read_candidate, subject_done, subject_candidate, subject_point, subject_number, read_subject, read_kind, read_answer, cast_done, cast_number, read_cast, vote_done, vote_cast, vote_answer, vote_kind, read_flat, read_vote}
+use Rattle.format.specs.Vote.{InCandidate, InVote, candidate_text, kind_text, answer_text, vote_flat, vote_spelled, given, read_candidate, subject_done, subject_candidate, subject_point, subject_number, read_subject, kind_word, read_kind, answer_word, read_answer, cast_done, cast_number, read_cast, vote_done, vote_cast, vote_answer, vote_kind, read_flat, read_vote}
 use Rattle.format.specs.Laws.{Decoded, Once}
 use Rattle.format.proofs.FoldLaws.{unfold_folded, is_folded_lem, fold_unfolded}
-use Rattle.format.proofs.Steps.{Read, then_some}
+use Rattle.format.proofs.Steps.{Read, then_some, word_parts}
 use Rattle.format.proofs.NumberLaws.{number_complete, found_then, word_right, number_right}
 use Rattle.format.proofs.Decoding.{decoded, once}
 
@@ -33,6 +33,23 @@ subject_complete : (q : ℕ) (c : Option ℕ) (t : List ℕ) → InDigits 2 q �
 subject_complete q c t h k =
     sym (then_some subject_point (sym (number_complete 2 q (codes "." ++ (candidate_text c ++ (47 ∷ t))) (omega arith) (omega arith) (omega arith) (omega arith) refl))
     (then_some (subject_done q) (sym (candidate_complete c t k)) refl))
+
+-- the kind and the answer, where `/TYPE/` and `/RSLT/` are read but once
+pub kind_none : (s : List ℕ) → None ≡ after_word (codes "/TYPE/") s → None ≡ read_kind s
+kind_none s e = let o = word_parts (codes "/TYPE/") (codes "ORDN") s in let m = word_parts (codes "/TYPE/") (codes "CMLT") s in rw (o, m, sym e) refl
+
+pub kind_some : (s t : List ℕ) → Some t ≡ after_word (codes "/TYPE/") s → kind_word t ≡ read_kind s
+kind_some s t e = let o = word_parts (codes "/TYPE/") (codes "ORDN") s in let m = word_parts (codes "/TYPE/") (codes "CMLT") s in rw (o, m, sym e) refl
+
+pub answer_none : (s : List ℕ) → None ≡ after_word (codes "/RSLT/") s → None ≡ read_answer s
+answer_none s e = let y = word_parts (codes "/RSLT/") (codes "CONY") s in let n = word_parts (codes "/RSLT/") (codes "CONN") s in let a = word_parts (codes "/RSLT/") (codes "ABST") s in rw (y, n, a, sym e) refl
+
+pub answer_some : (s t : List ℕ) → Some t ≡ after_word (codes "/RSLT/") s → answer_word t ≡ read_answer s
+answer_some s t e =
+    let y = word_parts (codes "/RSLT/") (codes "CONY") s in
+    let n = word_parts (codes "/RSLT/") (codes "CONN") s in
+    let a = word_parts (codes "/RSLT/") (codes "ABST") s in
+    rw (y, n, a, sym e) refl
 
 kind_complete : (k : VoteKind) (t : List ℕ) → read_kind (codes "/TYPE/" ++ (kind_text k ++ t)) ≡ Some (k, t)
 kind_complete Ordinary t = refl
@@ -149,3 +166,16 @@ vote_decoded = decoded InVote vote_spelled read_vote vote_right vote_complete
 
 pub vote_once : Once InVote vote_spelled
 vote_once = once InVote vote_spelled read_vote vote_complete
+
+-- what is read is in range
+pub vote_in : (v : List ℕ) (w : VoteText) → read_vote v ≡ Some w → InVote w
+vote_in v w e = (vote_decoded v (Some w) (sym e)).0
+
+pub vote_question : (v : List ℕ) (w : VoteText) → read_vote v ≡ Some w → (1 ≤ w.question) × (w.question ≤ 99)
+vote_question v w e = let h = (vote_in v w e).0 in (h.0, omega (arith, h.1))
+
+pub vote_candidate : (v : List ℕ) (w : VoteText) (n : ℕ) → read_vote v ≡ Some w → w.candidate ≡ Some n → (1 ≤ n) × (n ≤ 99)
+vote_candidate v w n e c = let h : InDigits 2 n = subst InCandidate c (vote_in v w e).1 in (h.0, omega (arith, h.1))
+
+pub vote_quantity : (v : List ℕ) (w : VoteText) → read_vote v ≡ Some w → (1 ≤ w.quantity) × (w.quantity < 10 ^ 15)
+vote_quantity v w e = (vote_in v w e).2

@@ -64,9 +64,18 @@ subject_number t = and_then (number 2 t) subject_point
 abbrev pub read_subject : List ℕ → Option ((ℕ × Option ℕ) × List ℕ)
 read_subject s = and_then (after_word (codes "ISLB/") s) subject_number
 
+-- the word of the kind, behind `/TYPE/`
+abbrev pub kind_word : List ℕ → Option (VoteKind × List ℕ)
+kind_word t = or_else (stands_for Ordinary (after_word (codes "ORDN") t)) (stands_for Cumulative (after_word (codes "CMLT") t))
+
 -- `/TYPE/` and the kind
 abbrev pub read_kind : List ℕ → Option (VoteKind × List ℕ)
 read_kind s = or_else (stands_for Ordinary (after_word (codes "/TYPE/ORDN") s)) (stands_for Cumulative (after_word (codes "/TYPE/CMLT") s))
+
+-- the word of the answer, behind `/RSLT/`
+abbrev pub answer_word : List ℕ → Option (VoteAnswer × List ℕ)
+answer_word t =
+    or_else (stands_for For (after_word (codes "CONY") t)) (or_else (stands_for Against (after_word (codes "CONN") t)) (stands_for Abstain (after_word (codes "ABST") t)))
 
 -- `/RSLT/` and the answer
 abbrev pub read_answer : List ℕ → Option (VoteAnswer × List ℕ)

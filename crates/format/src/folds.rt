@@ -1,12 +1,16 @@
 // Text that is folded to lines of 35 characters.
-ghost use Rattle.std.specs.Prelude.{◌≡◌, ℕ, true, false, MatchOption};
+ghost use Rattle.std.specs.Prelude.{◌≡◌, ℕ, ◌<◌, length, true, false, MatchOption, MatchResult};
 ghost use Rattle.std.specs.Option.{option_map};
-ghost use Rattle.format.specs.Folding.{behind_break, is_folded, unfolded_from};
+ghost use Rattle.format.specs.Folding.{behind_break, is_folded, unfolded, unfolded_from};
 
 use crate::text::{Plain, Text};
+use fields::walk::part;
+use short::short::{Full, Short};
 
 // How many characters stand in a line.
 pub const WIDTH: usize = 35;
+
+const TWO_LINES: usize = 2 * WIDTH;
 
 // Bytes that are folded to lines, the first of which has room for so many characters. It means the characters without the CR LFs between
 // the lines.
@@ -32,6 +36,16 @@ impl<'a> Folded<'a> {
     }
 }
 
+// The characters of folded bytes, one behind the other, where there are not more than two lines.
+pub fn flat(bytes: &[u8]) -> Result<Short<u8, TWO_LINES>, Full>
+    ensures { MatchResult result (λ t. t.items ≡ unfolded 35 bytes.now) (λ _. 72 < length bytes.now) }
+{
+    let mut text = Short::new(0);
+    text.append(part(bytes, 0, WIDTH))?;
+    text.append(part(bytes, WIDTH + 2, bytes.len()))?;
+    Ok(text)
+}
+
 impl Text for Folded<'_> {
     ghost chars = { λ t. unfolded_from 35 t.room t.bytes.now };
 
@@ -45,6 +59,15 @@ impl Text for Folded<'_> {
         let (c, bytes) = line.bytes.split_first()?;
         let room = line.room - 1;
         Some((*c, Folded { bytes, room }))
+    }
+
+    // Where the line has room for the word, no break stands in it.
+    fn after_word(self, word: &[u8]) -> Option<Self> {
+        let Some(room) = self.room.checked_sub(word.len()) else {
+            return self.step_over(word);
+        };
+        let bytes = self.bytes.strip_prefix(word)?;
+        Some(Folded { bytes, room })
     }
 }
 

@@ -22,6 +22,13 @@ pub trait Text: Copy {
     fn after_word(self, word: &[u8]) -> Option<Self>
         ensures { option_map chars result ≡ after_word word.now (chars self) }
     {
+        self.step_over(word)
+    }
+
+    // The same, character by character.
+    fn step_over(self, word: &[u8]) -> Option<Self>
+        ensures { option_map chars result ≡ after_word word.now (chars self) }
+    {
         let mut rest = self;
         for c in word {
             let (x, next) = rest.split_first()?;

@@ -3,11 +3,11 @@ ghost use Rattle.std.specs.Prelude.{◌≡◌, ℕ};
 ghost use Rattle.format.specs.Folding.{Folds};
 ghost use Rattle.format.specs.Laws.{Decoded, Once};
 ghost use Rattle.format.specs.Texts.{left};
-ghost use Rattle.format.specs.Vote.{InVote, read_answer, read_candidate, read_cast, read_flat, read_kind, read_subject, read_vote, vote_spelled};
+ghost use Rattle.format.specs.Vote.{InVote, answer_word, kind_word, read_answer, read_candidate, read_cast, read_flat, read_kind, read_subject, read_vote, vote_spelled};
 
-use crate::folds::Folded;
+use crate::folds::{Folded, flat};
 use crate::numbers::number;
-use crate::text::{Text, stands_for};
+use crate::text::{Plain, Text, stands_for};
 
 // The two kinds of a vote.
 #[derive(Clone, Copy, PartialEq, Eq, Debug)]
@@ -54,21 +54,37 @@ fn subject<T: Text>(text: T) -> Option<((u8, Option<u8>), T)>
     Some(((question as u8, candidate), rest))
 }
 
+// The word of the kind at the front, and what is left behind it.
+fn kind_word<T: Text>(text: T) -> Option<(VoteKind, T)>
+    ensures { left T.chars result ≡ kind_word (T.chars text) }
+{
+    let ordinary = stands_for(text, b"ORDN", VoteKind::Ordinary);
+    ordinary.or_else(|| stands_for(text, b"CMLT", VoteKind::Cumulative))
+}
+
 // The kind at the front, and what is left behind it.
+#[tactic(auto, using(crate::proofs::VoteLaws::kind_none, crate::proofs::VoteLaws::kind_some))]
 fn kind<T: Text>(text: T) -> Option<(VoteKind, T)>
     ensures { left T.chars result ≡ read_kind (T.chars text) }
 {
-    let ordinary = stands_for(text, b"/TYPE/ORDN", VoteKind::Ordinary);
-    ordinary.or_else(|| stands_for(text, b"/TYPE/CMLT", VoteKind::Cumulative))
+    kind_word(text.after_word(b"/TYPE/")?)
+}
+
+// The word of the answer at the front, and what is left behind it.
+fn answer_word<T: Text>(text: T) -> Option<(VoteAnswer, T)>
+    ensures { left T.chars result ≡ answer_word (T.chars text) }
+{
+    stands_for(text, b"CONY", VoteAnswer::For)
+        .or_else(|| stands_for(text, b"CONN", VoteAnswer::Against))
+        .or_else(|| stands_for(text, b"ABST", VoteAnswer::Abstain))
 }
 
 // The answer at the front, and what is left behind it.
+#[tactic(auto, using(crate::proofs::VoteLaws::answer_none, crate::proofs::VoteLaws::answer_some))]
 fn answer<T: Text>(text: T) -> Option<(VoteAnswer, T)>
     ensures { left T.chars result ≡ read_answer (T.chars text) }
 {
-    stands_for(text, b"/RSLT/CONY", VoteAnswer::For)
-        .or_else(|| stands_for(text, b"/RSLT/CONN", VoteAnswer::Against))
-        .or_else(|| stands_for(text, b"/RSLT/ABST", VoteAnswer::Abstain))
+    answer_word(text.after_word(b"/RSLT/")?)
 }
 
 // The quantity with which a vote ends.
@@ -96,6 +112,17 @@ fn vote_of<T: Text>(text: T) -> Option<VoteText>
     })
 }
 
+// The vote that a folded text spells. No vote has more than two lines; what has goes the long way, to be refused there.
+fn read(value: &[u8]) -> Option<VoteText>
+    ensures { result ≡ read_vote value.now }
+{
+    let folded = Folded::new(value)?;
+    match flat(value) {
+        Ok(text) => vote_of(Plain(text.as_slice())),
+        Err(_) => vote_of(folded),
+    }
+}
+
 // The vote that a value spells: `ISLB/`, the question, a point, the candidate or nothing, `/TYPE/` and the kind, `/RSLT/` and the answer,
 // `/QVTG/` and the quantity, with a CR LF after every 35th character that another follows.
 #[tactic(auto, using(crate::proofs::VoteLaws::vote_decoded, crate::proofs::LineLaws::folds))]
@@ -105,5 +132,5 @@ pub fn vote(value: &[u8]) -> Option<VoteText>
     ensures once { Once InVote vote_spelled }
     ensures folds { Folds }
 {
-    Folded::new(value).and_then(vote_of)
+    read(value)
 }

@@ -1,6 +1,6 @@
 use Rattle.std.proofs.Common.{◌≡◌, drop}
 use Rattle.format.specs.Texts.{after_word}
-use Rattle.format.proofs.text.Text.after_word.Given as goal
+use Rattle.format.proofs.text.Text.step_over.Given as goal
 
 -- what is left of the word, here, gives what the whole gives
 abbrev pub invariant-loop-c : goal.invariant-loop-c

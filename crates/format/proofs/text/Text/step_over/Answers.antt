@@ -1,6 +1,6 @@
 use Rattle.std.proofs.Common.{◌∙◌}
 use Rattle.format.proofs.Steps.{word_ends}
-use Rattle.format.proofs.text.Text.after_word.Goals as goal
+use Rattle.format.proofs.text.Text.step_over.Goals as goal
 
 pub returns-in_err-x : goal.returns-in_err-x
 returns-in_err-x g c =
