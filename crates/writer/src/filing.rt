@@ -75,9 +75,12 @@ pub fn refile(
 ) -> Result<usize, FilingFault>
     ensures { RefilesNumbered (sheet_of number) text.now table.old table.new out.old out.new result }
 {
-    let mut output = Output::over(out);
-    let sheet = StandardSheet::try_from(number)?;
-    let len = refile_by(&sheet, text, table, output.bytes)?;
-    output.finished = true;
-    Ok(len)
+    // Stays a match, as in `write`.
+    match StandardSheet::try_from(number) {
+        Ok(sheet) => refile_by(&sheet, text, table, out),
+        Err(fault) => {
+            out.fill(0);
+            Err(FilingFault::from(fault))
+        }
+    }
 }

@@ -38,12 +38,12 @@ fn qualifier_in(qualifiers: &[Qualifier], part: &[u8]) -> Option<Qualifier>
 }
 
 // Has the part the row's key: the block's name; or one of the row's qualifiers and a slash, where it has any?
-pub(crate) fn has_key(row: Row<'_>, part: &[u8]) -> bool
-    ensures { result ≡ keyed (row_of row.entry) part.now }
+pub(crate) fn has_key(row: Row, part: &[u8]) -> bool
+    ensures { result ≡ keyed (row_of row) part.now }
 {
     match row {
-        Row::Open(_, name) | Row::Close(name) => name == part,
-        Row::Field(field) => field.admits(qualifier_in(field.qualifiers, part)),
+        Row::Open(_, name) | Row::Close(name) => name.as_bytes() == part,
+        Row::Field(field) => field.admits(qualifier_in(field.qualifiers.as_slice(), part)),
     }
 }
 

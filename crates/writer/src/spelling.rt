@@ -13,8 +13,8 @@ use sheet::rows::{BLOCK_END, BLOCK_START, Row};
 use short::short::Full;
 
 // The tag of the row's fields.
-fn tag_of(row: Row<'_>) -> Tag
-    ensures { result ≡ tag_in (row_of row.entry) }
+fn tag_of(row: Row) -> Tag
+    ensures { result ≡ tag_in (row_of row) }
 {
     match row {
         Row::Open(..) => BLOCK_START,
@@ -24,18 +24,18 @@ fn tag_of(row: Row<'_>) -> Tag
 }
 
 // The second colon, where the row has qualifiers.
-fn second_colon(row: Row<'_>) -> &'static [u8]
-    ensures { result.now ≡ second_in (row_of row.entry) }
+fn second_colon(row: Row) -> &'static [u8]
+    ensures { result.now ≡ second_in (row_of row) }
 {
     match row {
-        Row::Field(field) if !field.qualifiers.is_empty() => b":",
+        Row::Field(field) if !field.admits(None) => b":",
         _ => b"",
     }
 }
 
 // Spells a colon, the row's tag, a colon, and another where the row has qualifiers.
-fn put_header(scratch: &mut Scratch, row: Row<'_>) -> Result<(), Full>
-    ensures { Puts scratch.old.items (head_in (row_of row.entry)) scratch.new.items result }
+fn put_header(scratch: &mut Scratch, row: Row) -> Result<(), Full>
+    ensures { Puts scratch.old.items (head_in (row_of row)) scratch.new.items result }
 {
     let Tag(a, b, c) = tag_of(row);
     scratch.append(&[b':', a, b, c, b':'])?;

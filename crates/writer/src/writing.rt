@@ -66,9 +66,12 @@ pub fn write(
 ) -> Result<usize, WritingFault>
     ensures { WritesNumbered (sheet_of number) entries.now bytes.now out.old out.new result }
 {
-    let mut output = Output::over(out);
-    let sheet = StandardSheet::try_from(number)?;
-    let len = write_by(&sheet, entries, bytes, output.bytes)?;
-    output.finished = true;
-    Ok(len)
+    // Stays a match: a guard here would zero the output once more where the writing below, which has its own, is refused.
+    match StandardSheet::try_from(number) {
+        Ok(sheet) => write_by(&sheet, entries, bytes, out),
+        Err(fault) => {
+            out.fill(0);
+            Err(WritingFault::from(fault))
+        }
+    }
 }
