@@ -96,3 +96,11 @@ module _ {F : Type 0} (text : List ℕ) (g : Mut F (Bor Entry × Unit {0}) (Opti
         let i = next t u p h.0 m in
         ap (rights_in text) (sym all)
         ∙ ap single (MatchOption-at_some _ _ y k h.1 ∙ ap (λ (rest : List RightsText). rights_of y ∷ rest) (MatchOption-at_none _ _ l i.1))
+
+    -- and what is told of the first, with what was found behind it
+    pub holders_told : (y : Rights) → r ≡ Some y → filter_map_steps iter_steps g t p u → (q : Option Rights) → MatchOption p (q ≡ Some y) (λ _. q ≡ None) → rights_in text es ≡ option_map rights_of q
+    holders_told y k m q told = by p refl
+      where
+        by : (o : Option Rights) → p ≡ o → rights_in text es ≡ option_map rights_of q
+        by None l = one_holder y k m l ∙ ap (option_map rights_of) (sym (MatchOption-at_none _ _ l told))
+        by (Some z) l = more_holders y z k m l ∙ ap (option_map rights_of) (sym (MatchOption-at_some _ _ z l told))

@@ -1,5 +1,5 @@
 // What the text of an instruction says, by its field table.
-ghost use Rattle.std.specs.Prelude.{◌≡◌};
+ghost use Rattle.std.specs.Prelude.{◌≡◌, Some as Given, None as Nothing, MatchOption};
 ghost use Rattle.std.specs.Option.{option_map};
 ghost use Rattle.register.specs.Spelling.{spelling};
 ghost use Rattle.message.specs.Texts.{text_of};
@@ -61,6 +61,17 @@ fn rights_of(value: &[u8]) -> Option<Rights>
     }
 }
 
+// The rights identifier that was found first, where no second was.
+// Stays a match: it is the second that refuses, and `then_some` would put it behind a test.
+fn alone(rights: Rights, second: Option<Rights>) -> Option<Rights>
+    ensures { MatchOption second (result ≡ Given rights) (λ _. result ≡ Nothing) }
+{
+    match second {
+        Some(_) => None,
+        None => Some(rights),
+    }
+}
+
 impl ReadText<'_> {
     fn function(self) -> Option<Function>
         ensures { result ≡ function_in self.entry.text.now self.entry.entries.now }
@@ -100,11 +111,7 @@ impl ReadText<'_> {
             .iter()
             .filter_map(|entry| self.rights_at(*entry));
         let rights = all.next()?;
-        // Stays a match: it is the second that refuses, and `then_some` would put it behind a test.
-        match all.next() {
-            Some(_) => None,
-            None => Some(rights),
-        }
+        alone(rights, all.next())
     }
 
     // What the text says, part by part.

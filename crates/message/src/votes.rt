@@ -11,7 +11,7 @@ use format::votes::{VoteAnswer, VoteKind, VoteText, vote};
 use short::short::Short;
 
 // For a place that holds no vote yet: what it says is of no account.
-const NO_VOTE: VoteText = VoteText {
+pub(crate) const NO_VOTE: VoteText = VoteText {
     question: 0,
     candidate: None,
     kind: VoteKind::Ordinary,

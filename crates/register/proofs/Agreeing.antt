@@ -42,6 +42,9 @@ agrees_forgotten ps qs (m ∷ ms) k same ok =
 pub agrees_learnt : (ps qs : List Pair) (ms : List Memo) (r : Reference) (a : Option ℕ) → ((q : List ℕ) → bytes_eq (spelling r) q ≡ false → look qs q ≡ look ps q) → a ≡ look qs (spelling r) → Agrees ps ms → Agrees qs (learnt ms r a)
 agrees_learnt ps qs ms r a same is ok = All-take (λ m. m.value ≡ look qs (key m)) 16 (record { reference = r; value = a } ∷ forgotten ms (spelling r)) (is, agrees_forgotten ps qs ms (spelling r) same ok)
 
+pub none_some : {V : Type 0} (o : Option V) (a : V) → o ≡ None → o ≡ Some a → ⊥
+none_some o a e f = let z : ◌≡◌ {A = ℕ} 0 1 = cc in omega arith
+
 -- after a find that asked below
 pub keeps_found : (ps qs : List Pair) (ms ns : List Memo) (r : Reference) (a : Option ℕ) → Found ps qs (spelling r) a → ns ≡ learnt ms r a → Agrees ps ms → Agrees qs ns
 keeps_found ps qs ms ns r a f is ok = let P : List Memo → Type 0 = λ l. Agrees qs l in subst P (sym is) (agrees_learnt ps qs ms r a (λ q _. f.same.looks q) (f.answer ∙ sym (f.same.looks (spelling r))) ok)

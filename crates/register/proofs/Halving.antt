@@ -8,6 +8,9 @@ pub record Spent (n m w : ℕ) : Type 0 where
   pub bound : 2 ^ m ≤ 2 * n + 1
   pub few : m + w ≤ n
 
+pub spent_none : (n : ℕ) → Spent n 0 n
+spent_none n = record { above = omega arith; below = omega arith; bound = omega arith; few = omega arith }
+
 doubled : (m x : ℕ) → 2 ^ (m + 1) * x ≡ 2 ^ m * (2 * x)
 doubled m x = rw (add-one, pow-suc) (mul_assoc (2 ^ m) 2 x)
 

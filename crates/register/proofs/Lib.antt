@@ -8,3 +8,4 @@ pub mod Ascents
 pub mod Remembered
 pub mod Agreeing
 pub mod Running
+pub mod Uses

@@ -1,6 +1,7 @@
 -- Texts in sixteen bytes: padding changes neither their equality nor their order.
-use Rattle.std.proofs.Common.{◌≡◌, ℕ, zero, suc, ◌-◌, ◌<◌, ◌≤◌, Bool, true, false, ◌&&◌, T, eqb, leb, List, [], ◌∷◌, ◌++◌, length, get_or, take, drop, replicate, Less, Greater, sym, refl, ap, ◌∙◌, subst, inl, inr, arith}
-use Rattle.std.proofs.lemmas.List.{drop-replicate}
+use Rattle.std.proofs.Common.{◌≡◌, ℕ, zero, suc, ◌-◌, ◌<◌, ◌≤◌, Bool, true, false, ◌&&◌, T, eqb, leb, List, [], ◌∷◌, ◌++◌, length, get_or, take, drop, replicate, Some, None, Option, MatchOption, unwrap_or, Less, Greater, sym, refl, ap, ◌∙◌, subst, inl, inr, arith}
+use Rattle.std.specs.List.{AllWithin, HoldsAt}
+use Rattle.std.proofs.lemmas.List.{drop-replicate, take_all}
 use Rattle.std.specs.Ordering.{ordering_then, nat_cmp}
 use Rattle.std.specs.Str.{bytes_eq}
 use Rattle.std.proofs.lemmas.Slice.Eq.{bytes_eq-Decides}
@@ -18,6 +19,9 @@ both false b t = absurd t
 pub from_T : (b : Bool) → T b → b ≡ true
 from_T true t = refl
 from_T false t = absurd t
+
+pub to_T : (b : Bool) → b ≡ true → T b
+to_T b e = rw e tt
 
 pub zeros_are : (bs : List ℕ) → T (zeros bs) → bs ≡ replicate (length bs) 0
 zeros_are [] t = refl
@@ -133,6 +137,11 @@ first_zero (b ∷ bs) (suc n) lt e h = rw (ne_eqb b 0 (h 0 (omega arith))) (ap (
 pub no_zero : (bs : List ℕ) → ((k : ℕ) → k < length bs → get_or bs k 0 ≡ 0 → ⊥) → bs ≡ unpadded bs
 no_zero [] h = refl
 no_zero (b ∷ bs) h = rw (ne_eqb b 0 (h 0 (omega arith))) (ap (λ l. b ∷ l) (no_zero bs (λ k l. h (suc k) (omega arith))))
+
+-- where the first zero stands, or behind all sixteen, the text ends
+pub text_ends : (bs : List ℕ) (r : Option ℕ) → length bs ≡ 16 → MatchOption r (AllWithin (λ b. b ≡ 0 → ⊥) bs 0 (length bs)) (λ i. (i < length bs) × HoldsAt (λ b. b ≡ 0) bs i × AllWithin (λ b. b ≡ 0 → ⊥) bs 0 i) → (unwrap_or r 16 ≤ 16) × (take (unwrap_or r 16) bs ≡ unpadded bs)
+text_ends bs None n none = (omega arith, take_all 16 bs (omega arith) ∙ no_zero bs (λ k l. none k 0 (omega arith) l))
+text_ends bs (Some i) n first = (let lt = first.0 in omega arith, first_zero bs i first.0 (first.1 0) (λ k l. first.2 k 0 (omega arith) l))
 
 pub copied : (t bs : List ℕ) → bs ≡ t → bs ++ drop (length t) (replicate 16 0) ≡ padded t
 copied t bs is = rw (is, drop-replicate {X = ℕ} (length t) 16 0) refl

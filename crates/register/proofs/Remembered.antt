@@ -1,5 +1,5 @@
 -- Learning and forgetting in a list of memos with no reference twice.
-use Rattle.std.proofs.Common.{◌≡◌, ℕ, zero, suc, Bool, not, ◌&&◌, T, List, [], ◌∷◌, take, is_some, Some, None, Option, refl, ◌∙◌, inl, inr}
+use Rattle.std.proofs.Common.{◌≡◌, ℕ, zero, suc, Bool, not, ◌&&◌, T, List, [], ◌∷◌, take, is_some, Some, None, Option, sym, refl, ap, ◌∙◌, subst, inl, inr}
 use Rattle.std.specs.Str.{bytes_eq}
 use Rattle.std.proofs.lemmas.Bool.{cases_Bool}
 use Rattle.register.specs.declared.reference.Reference.{Reference}
@@ -33,5 +33,15 @@ distinct_take zero ms d = tt
 distinct_take (suc n) [] d = tt
 distinct_take (suc n) (m ∷ ms) d = (look_take n ms (key m) d.0, distinct_take n ms d.1)
 
+-- the newest goes before the others, of which the first are kept, however many that are
+pub distinct_newest : (n : ℕ) (ms : List Memo) (r : Reference) (a : Option ℕ) → Distinct ms → Distinct (take n (record { reference = r; value = a } ∷ forgotten ms (spelling r)))
+distinct_newest n ms r a d = distinct_take n (record { reference = r; value = a } ∷ forgotten ms (spelling r)) (look_forgotten ms (spelling r) (spelling r) ∙ rw (same_refl (spelling r)) refl, distinct_forgotten ms (spelling r) d)
+
 pub distinct_learnt : (ms : List Memo) (r : Reference) (a : Option ℕ) → Distinct ms → Distinct (learnt ms r a)
-distinct_learnt ms r a d = distinct_take 16 (record { reference = r; value = a } ∷ forgotten ms (spelling r)) (look_forgotten ms (spelling r) (spelling r) ∙ rw (same_refl (spelling r)) refl, distinct_forgotten ms (spelling r) d)
+distinct_learnt = distinct_newest 16
+
+-- so a reference learnt stands once, whatever number is kept
+pub newest_once : (n : ℕ) (ms fs ns : List Memo) (r : Reference) (a : Option ℕ) → T (single ms) → fs ≡ forgotten ms (spelling r) → ns ≡ take n (record { reference = r; value = a } ∷ fs) → T (single ns)
+newest_once n ms fs ns r a t f is =
+    let P : List Memo → Type 0 = λ l. T (single l) in
+    subst P (sym (is ∙ ap (λ l. take n (record { reference = r; value = a } ∷ l)) f)) (single_from_distinct _ (distinct_newest n ms r a (distinct_from_single ms t)))

@@ -1,5 +1,5 @@
 -- Registers that answer each call as a plain set does answer a list of calls so.
-use Rattle.std.proofs.Common.{◌≡◌, ℕ, zero, suc, ◌+◌, ◌-◌, ◌<◌, min, Bool, true, false, cond, List, [], ◌∷◌, ◌++◌, length, get_or, take, drop, set, is_some, is_ok, Some, None, Result, sym, refl, ap, ◌∙◌, subst, ap₂, arith}
+use Rattle.std.proofs.Common.{◌≡◌, ℕ, zero, suc, ◌+◌, ◌-◌, ◌<◌, min, Bool, true, false, cond, ◌&&◌, List, [], ◌∷◌, ◌++◌, length, get_or, take, drop, set, is_some, is_ok, Some, None, Option, Result, sym, refl, ap, ◌∙◌, subst, ap₂, arith}
 use Rattle.std.specs.Str.{bytes_eq}
 use Rattle.std.proofs.lemmas.List.{take-append-drop, take_more, take_more_set, drop-set-lt, drop-drop}
 use Rattle.register.specs.declared.call.EnterRefusal.{EnterRefusal}
@@ -7,8 +7,8 @@ use Rattle.register.specs.declared.call.Call.{Call}
 use Rattle.register.specs.declared.call.Call.TheVariants.{Find, Enter, Strike, Clear}
 use Rattle.register.specs.declared.call.Answer.{Answer}
 use Rattle.register.specs.declared.call.Answer.TheVariants.{Number, Verdict}
-use Rattle.register.specs.Pairs.{Pair}
-use Rattle.register.specs.Sets.{Alike, verdict}
+use Rattle.register.specs.Pairs.{Pair, look}
+use Rattle.register.specs.Sets.{Alike, Found, Entered, Struck, verdict}
 use Rattle.register.specs.Runs.{View, view_of, SameView, with_pair, without_pair, replied, left, replies, lastly, Fit, Ready, Answered, Ran, Carried}
 use Rattle.register.specs.Spelling.{spelling}
 
@@ -16,6 +16,9 @@ use Rattle.register.specs.Spelling.{spelling}
 
 pub view_refl : (v : View) → SameView v v
 view_refl v = record { looks = λ q. refl; size = refl }
+
+pub view_flip : (v w : View) → SameView v w → SameView w v
+view_flip v w s = record { looks = λ q. sym (s.looks q); size = sym s.size }
 
 pub view_trans : (u v w : View) → SameView u v → SameView v w → SameView u w
 view_trans u v w s t = record { looks = λ q. t.looks q ∙ s.looks q; size = t.size ∙ s.size }
@@ -50,6 +53,22 @@ left_same room v w Clear s = view_refl (view_of [])
 pub replies_same : (room : ℕ) (v w : View) (cs : List Call) → SameView v w → replies room v cs ≡ replies room w cs
 replies_same room v w [] s = refl
 replies_same room v w (c ∷ cs) s = ap₂ (λ a ys. a ∷ ys) (replied_same room v w c s) (replies_same room (left room v c) (left room w c) cs (left_same room v w c s))
+
+-- what the clauses of a register say of its view
+
+pub found_view : (ps qs : List Pair) (k : List ℕ) (r : Option ℕ) → Found ps qs k r → SameView (view_of ps) (view_of qs)
+found_view ps qs k r f = record { looks = f.same.looks; size = f.same.size }
+
+pub entered_view : (room : ℕ) (ps qs : List Pair) (k : List ℕ) (n : ℕ) (r : Result (Unit {0}) EnterRefusal) → Entered room ps qs k n r → SameView (cond (is_ok (verdict room (look ps k) (length ps))) (with_pair (view_of ps) k n) (view_of ps)) (view_of qs)
+entered_view room ps qs k n r e = let P : Result (Unit {0}) EnterRefusal → Type 0 = λ z. SameView (cond (is_ok z) (with_pair (view_of ps) k n) (view_of ps)) (view_of qs) in subst P e.answer (both (is_ok r) e.looks e.size) where
+  both : (b : Bool) → ((q : List ℕ) → look qs q ≡ cond (b && bytes_eq k q) (Some n) (look ps q)) → length qs ≡ length ps + cond b 1 0 → SameView (cond b (with_pair (view_of ps) k n) (view_of ps)) (view_of qs)
+  both true looks size = record { looks = looks; size = size }
+  both false looks size = record { looks = looks; size = omega arith }
+
+pub struck_view : (ps qs : List Pair) (k : List ℕ) (r : Option ℕ) → Struck ps qs k r → SameView (without_pair (view_of ps) k) (view_of qs)
+struck_view ps qs k r s = record { looks = s.looks; size = taken (length qs) (cond (is_some r) 1 0) (length ps) s.size ∙ ap (λ o. length ps - cond (is_some o) 1 0) s.answer } where
+  taken : (a b c : ℕ) → a + b ≡ c → a ≡ c - b
+  taken a b c e = omega arith
 
 -- lists of calls
 

@@ -1,8 +1,9 @@
 // A list that keeps its pairs as they came.
-ghost use Rattle.std.specs.Prelude.{◌≡◌, [], is_some, None};
+ghost use Rattle.std.specs.Prelude.{◌≡◌, [], is_some, Some, None, IfSome};
+ghost use Rattle.std.specs.List.{HoldsAt, remove};
 ghost use Rattle.register.specs.Laws.{held_within, room_bounded};
 ghost use Rattle.register.specs.Lists.{relisted, behind};
-ghost use Rattle.register.specs.Pairs.{look, Distinct};
+ghost use Rattle.register.specs.Pairs.{look, Distinct, forgotten};
 ghost use Rattle.register.specs.Places.{Placed};
 ghost use Rattle.register.specs.Slots.{held, room_in};
 ghost use Rattle.register.specs.Spelling.{spelling};
@@ -37,6 +38,8 @@ impl ArrivalList<'_> {
     // Where `reference` stands among the pairs.
     fn place(&self, reference: &Reference) -> Option<usize>
         ensures placed { Placed (held self.now.slots) (spelling reference.now) result }
+        ensures beside { Distinct (held self.now.slots) → IfSome result (λ i. HoldsAt (λ p. look (held self.now.slots) (spelling reference.now) ≡ Some p.value) (held self.now.slots) i) }
+        ensures rest { Distinct (held self.now.slots) → IfSome result (λ i. remove (held self.now.slots) i ≡ forgotten (held self.now.slots) (spelling reference.now)) }
         ensures there { is_some (look (held self.now.slots) (spelling reference.now)) ≡ is_some result }
     {
         place_in(self.slots.held(), reference)
@@ -79,6 +82,7 @@ impl Register for ArrivalList<'_> {
         }
     }
 
+    #[tactic(auto, using(crate::proofs::Forgetting::look_forgotten, crate::proofs::Edits::removed_size))]
     fn strike(&mut self, reference: &Reference) -> Option<usize> {
         let i = self.place(reference)?;
         let pair = self.slots.remove(i);

@@ -1,8 +1,9 @@
 // A list that keeps its pairs ascending by the bytes of their references, and finds by halving.
-ghost use Rattle.std.specs.Prelude.{◌≡◌, ◌<◌, [], length, is_some, is_ok, None, IfSome};
+ghost use Rattle.std.specs.Prelude.{◌≡◌, ◌<◌, [], length, is_some, is_ok, Some, None, IfSome};
+ghost use Rattle.std.specs.List.{HoldsAt, remove};
 ghost use Rattle.register.specs.Laws.{held_within, room_bounded};
 ghost use Rattle.register.specs.Lists.{relisted, ranked};
-ghost use Rattle.register.specs.Pairs.{look};
+ghost use Rattle.register.specs.Pairs.{look, forgotten};
 ghost use Rattle.register.specs.Places.{Ascending, Placed, Sought, Compared};
 ghost use Rattle.register.specs.Rising.{distinct_from_ascending};
 ghost use Rattle.register.specs.Slots.{held, room_in};
@@ -54,6 +55,8 @@ impl OrderedList<'_> {
     fn place(&self, reference: &Reference) -> Option<usize>
         ensures within { IfSome result (λ i. i < length (held self.now.slots)) }
         ensures placed { Ascending (held self.now.slots) → Placed (held self.now.slots) (spelling reference.now) result }
+        ensures beside { Ascending (held self.now.slots) → IfSome result (λ i. HoldsAt (λ p. look (held self.now.slots) (spelling reference.now) ≡ Some p.value) (held self.now.slots) i) }
+        ensures rest { Ascending (held self.now.slots) → IfSome result (λ i. remove (held self.now.slots) i ≡ forgotten (held self.now.slots) (spelling reference.now)) }
     {
         self.search(reference).ok()
     }
@@ -99,6 +102,7 @@ impl Register for OrderedList<'_> {
         }
     }
 
+    #[tactic(auto, using(crate::proofs::Forgetting::look_forgotten, crate::proofs::Edits::removed_size))]
     fn strike(&mut self, reference: &Reference) -> Option<usize> {
         let i = self.place(reference)?;
         let pair = self.slots.remove(i);

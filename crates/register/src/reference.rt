@@ -1,5 +1,5 @@
 // A reference: 1 to 16 characters of set x.
-ghost use Rattle.std.specs.Prelude.{◌≡◌, true, false, T, [], ◌∷◌, Some, MatchOption, refl};
+ghost use Rattle.std.specs.Prelude.{◌≡◌, ◌≤◌, true, false, T, [], ◌∷◌, take, Some, MatchOption, refl};
 ghost use Rattle.std.specs.Str.{bytes_eq};
 ghost use Rattle.register.specs.Order.{order};
 ghost use Rattle.register.specs.Texts.{shaped, unpadded, padded, is_text, all_x};
@@ -34,10 +34,16 @@ impl Reference {
     pub fn as_bytes(&self) -> &[u8]
         ensures { (result.now ≡ unpadded self.now.bytes) × (is_text result.now ≡ true) }
     {
-        match self.bytes.iter().position(|b| *b == 0) {
-            Some(n) => &self.bytes[..n],
-            None => &self.bytes,
-        }
+        &self.bytes[..self.len()]
+    }
+
+    // How many they are.
+    fn len(&self) -> usize
+        ensures within { result ≤ 16 }
+        ensures text { is_text (unpadded self.now.bytes) ≡ true }
+        ensures ends { take result self.now.bytes ≡ unpadded self.now.bytes }
+    {
+        self.bytes.iter().position(|b| *b == 0).unwrap_or(16)
     }
 
     // Whether both spell one text: then they have the same zeros behind it.

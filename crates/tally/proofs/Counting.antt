@@ -4,9 +4,9 @@ use native.Mathlib.Nat.{add-mod, mod-mod}
 use Rattle.std.proofs.lemmas.Bool.{cases_Bool, cond-false}
 use Rattle.tally.specs.declared.vote.Vote.{Vote}
 use Rattle.tally.specs.Scale.{Scale, joined}
-use Rattle.tally.specs.Combined.{each}
+use Rattle.tally.specs.Combined.{each, paired}
 use Rattle.tally.specs.Residue.{Residue, modulo}
-use Rattle.tally.specs.Control.{control_modulus, control_weight}
+use Rattle.tally.specs.Control.{control_modulus, control_weight, control}
 use Rattle.tally.specs.Ballot.{Figures, ballot_weight, on_table, cast_in, answered}
 use Rattle.tally.specs.Laws.{sum_of, cast, products, FigureCounts, TotalCounts}
 
@@ -14,6 +14,11 @@ use Rattle.tally.specs.Laws.{sum_of, cast, products, FigureCounts, TotalCounts}
 pub joined_each : {I V : Type 0} (s : I → Scale V) (i : I) (vs : List Vote) → joined (each s) vs i ≡ joined (s i) vs
 joined_each s i [] = refl
 joined_each s i (v ∷ vs) = ap ((s i).join ((s i).weight v)) (joined_each s i vs)
+
+-- of a pair each part is joined by its own scale
+pub joined_paired : {V W : Type 0} (s : Scale V) (t : Scale W) (vs : List Vote) → joined (paired s t) vs ≡ (joined s vs, joined t vs)
+joined_paired s t [] = refl
+joined_paired s t (v ∷ vs) = ap ((paired s t).join (s.weight v, t.weight v)) (joined_paired s t vs)
 
 -- joined residues are the residue of the sum
 pub joined_modulo : (m : ℕ) (p : 0 < m) (w : Vote → ℕ) (vs : List Vote) → (joined (modulo m p w) vs).0 ≡ sum_of w vs % m
@@ -48,3 +53,7 @@ figure_counts f q c votes e =
 
 pub total_counts : (a : Residue control_modulus) → TotalCounts a a.0
 total_counts a votes e = ap (λ (b : Residue control_modulus). b.0) e ∙ joined_modulo control_modulus (lit< tt) control_weight votes ∙ weighed_products votes
+
+-- the votes' products come to what their joined weight is
+pub products_joined : (votes : List Vote) → products votes % control_modulus ≡ (joined control votes).0
+products_joined votes = sym (joined_modulo control_modulus (lit< tt) control_weight votes ∙ weighed_products votes)

@@ -21,9 +21,10 @@ impl ControlTotal {
     pub fn new() -> ControlTotal
         ensures { exactly result.sum result.below ≡ control.neutral }
     {
-        ControlTotal { sum: 0 }
+        ControlTotal::of(0)
     }
 
+    #[tactic(auto, using(crate::proofs::Counting::products_joined))]
     pub fn total(&self) -> u64
         ensures value { result ≡ self.now.sum }
         ensures counts { TotalCounts (exactly self.now.sum self.now.below) result }
@@ -31,10 +32,17 @@ impl ControlTotal {
         self.sum
     }
 
+    // What is left of a whole number.
+    fn of(n: u128) -> ControlTotal
+        ensures { exactly result.sum result.below ≡ leaving n }
+    {
+        ControlTotal { sum: reduced(n) }
+    }
+
     fn join(&mut self, weight: u64)
         ensures { exactly self.new.sum self.new.below ≡ leaving (self.old.sum + weight) }
     {
-        self.sum = reduced(u128::from(self.sum) + u128::from(weight));
+        *self = ControlTotal::of(u128::from(self.total()) + u128::from(weight));
     }
 }
 

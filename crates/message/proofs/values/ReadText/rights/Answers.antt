@@ -2,7 +2,7 @@
 use Rattle.std.proofs.Common.{sym, ap, ◌∙◌, rules, tests}
 use Rattle.std.specs.Option.{option_map}
 use Rattle.message.specs.Instructions.{rights_of}
-use Rattle.message.proofs.Holders.{no_holder, one_holder, more_holders}
+use Rattle.message.proofs.Holders.{no_holder, holders_told}
 use Rattle.message.proofs.values.ReadText.rights.Goals as goal
 
 pub returns-in_err-rights : goal.returns-in_err-rights
@@ -11,12 +11,7 @@ returns-in_err-rights c =
     ∙ sym (no_holder c.args.self.text.now _ c.filter_map-all.result.f (λ x r q k. search (rules, tests)) c.args.self.entries.now c.filter_map-all.result c.next.new.self
     c.next.new.self c.next.result c.next.result (cc) (search rules) c.next.ensures.steps c.in_err-rights.was)
 
-pub returns-in-Some : goal.returns-in-Some
-returns-in-Some c =
-    sym (more_holders c.args.self.text.now _ c.filter_map-all.result.f (λ x r q k. search (rules, tests)) c.args.self.entries.now c.filter_map-all.result c.next.new.self
-    c.next-2.new.self c.next.result c.next-2.result (cc) (search rules) c.next.ensures.steps c.in_ok-rights.rights c.in-Some.field-0 c.in_ok-rights.was c.next-2.ensures.steps c.in-Some.is)
-
-pub returns-in-None : goal.returns-in-None
-returns-in-None c =
-    sym (one_holder c.args.self.text.now _ c.filter_map-all.result.f (λ x r q k. search (rules, tests)) c.args.self.entries.now c.filter_map-all.result c.next.new.self
-    c.next-2.new.self c.next.result c.next-2.result (cc) (search rules) c.next.ensures.steps c.in_ok-rights.rights c.in_ok-rights.was c.next-2.ensures.steps c.in-None.is)
+pub returns : goal.returns
+returns c =
+    sym (holders_told c.args.self.text.now _ c.filter_map-all.result.f (λ x r q k. search (rules, tests)) c.args.self.entries.now c.filter_map-all.result c.next.new.self
+    c.next-2.new.self c.next.result c.next-2.result (cc) (search rules) c.next.ensures.steps c.in_ok-rights.rights c.in_ok-rights.was c.next-2.ensures.steps c.alone.result c.alone.ensures)

@@ -1,9 +1,7 @@
 -- A pair is taken out where it stands, and the rest still ascends. Striking what is not there changes nothing.
 use Rattle.std.proofs.Common.{sym}
-use Rattle.register.specs.Slots.{held}
-use Rattle.register.specs.Rising.{distinct_from_ascending}
 use Rattle.register.proofs.Ascents.{ascending_removed}
-use Rattle.register.proofs.Edits.{struck_none, taken_out}
+use Rattle.register.proofs.Edits.{struck_none}
 use Rattle.register.proofs.Forgetting.{forgotten_none}
 use Rattle.register.proofs.ordered.OrderedListRegister.strike.Goals as goal
 
@@ -15,9 +13,3 @@ returns-in_err-i-clause-ruled c = λ o. sym (forgotten_none _ _ (c.in_err-i.ensu
 
 pub returns-clause-keeps : goal.returns-clause-keeps
 returns-clause-keeps c = λ o. rw c.remove-pair.ensures.held (ascending_removed _ c.in_ok-i.i o)
-
-pub returns-clause-strikes : goal.returns-clause-strikes
-returns-clause-strikes c = λ o. (taken_out (held c.args.self.now.slots) _ _ c.in_ok-i.i c.remove-pair.result (distinct_from_ascending _ o) (c.in_ok-i.ensures.placed o) c.remove-pair.ensures.taken c.remove-pair.ensures.held).0
-
-pub returns-clause-ruled : goal.returns-clause-ruled
-returns-clause-ruled c = λ o. (taken_out (held c.args.self.now.slots) _ _ c.in_ok-i.i c.remove-pair.result (distinct_from_ascending _ o) (c.in_ok-i.ensures.placed o) c.remove-pair.ensures.taken c.remove-pair.ensures.held).1
