@@ -18,6 +18,14 @@ cast_in_any question cell =
     same_from_clauses (list_any (in_cell question cell)) (λ vs. cast_in vs question cell) (λ v b. in_cell question cell v || b) refl (λ v vs. refl)
     (λ v vs. refl)
 
+-- is the vote at place i cast in the cell?
+pub cast_in_more : (votes : List Vote) (question cell i : ℕ) (none : Vote) (t : Bool) → i < length votes
+    → t ≡ (eqb (get_or votes i none).question question && eqb (get_or votes i none).cell cell)
+    → cast_in (drop i votes) question cell ≡ (t || cast_in (drop (i + 1) votes) question cell)
+cast_in_more votes question cell i none t h e =
+    let step : cast_in (drop i votes) question cell ≡ ((eqb (get_or votes i none).question question && eqb (get_or votes i none).cell cell) || cast_in (drop (i + 1) votes) question cell) = at_drop_more (λ l. cast_in l question cell) votes i none h in
+    rw e step
+
 -- which way it went, from what came of it
 went_well : {A E : Type 0} (t : Bool) (a b : A) (e : E) → Ok a ≡ cond t (Ok b) (Err e) → (t ≡ true) × (a ≡ b)
 went_well true a b e h = (refl, cc)

@@ -3,3 +3,4 @@ pub mod CastingSteps
 pub mod Counting
 pub mod SumLaws
 pub mod SumSteps
+pub mod Tables

@@ -66,31 +66,16 @@ fn cast_on(votes: &Votes, number: u8) -> CastOn
     ensures sum { result.sum ≡ sum_on (votes_of votes.now) number }
     ensures votes { result.votes ≡ votes_on (votes_of votes.now) number }
 {
-    CastOn {
-        sum: sum_on(votes, number),
-        votes: count_on(votes, number),
+    let given = votes.as_slice();
+    let mut cast = CastOn { sum: 0, votes: 0 };
+    // Stays a loop: it sums and counts in one pass.
+    for vote in given {
+        if vote.question == number {
+            cast.sum += u128::from(vote.quantity);
+            cast.votes += 1;
+        }
     }
-}
-
-fn sum_on(votes: &Votes, number: u8) -> u128
-    ensures { result ≡ sum_on (votes_of votes.now) number }
-{
-    votes
-        .as_slice()
-        .iter()
-        .filter(|vote| vote.question == number)
-        .map(|vote| u128::from(vote.quantity))
-        .sum()
-}
-
-fn count_on(votes: &Votes, number: u8) -> usize
-    ensures { result ≡ votes_on (votes_of votes.now) number }
-{
-    votes
-        .as_slice()
-        .iter()
-        .filter(|vote| vote.question == number)
-        .count()
+    cast
 }
 
 // Does what is cast hold on the question, if that is on the agenda?

@@ -10,13 +10,10 @@ use Rattle.book.specs.Book.{Terms, Instruction, Situation, found, held, in_recor
 use Rattle.book.specs.Orders.{Ordered, lodged, after}
 use Rattle.book.specs.Orders.Ordered.{lodge}
 use Rattle.book.specs.Storage.{Filed, Acted}
+use Rattle.book.specs.Acting.{restated}
 use Rattle.book.specs.Moves.{Ending, Placing}
 use Rattle.book.proofs.Keys.{cases_text, put_here, put_apart}
 use Rattle.book.proofs.Filing.{Change, refiled, refound, staying}
-
--- an instruction in another state
-abbrev pub restated : State → Instruction → Instruction
-restated state i = record { terms = i.terms; state = state }
 
 -- where nothing is refused, the first question is answered yes, and so on
 pub yes_to : {P : Type 0} {Q : BookFault → Type 0} → P ⊎ ((f : BookFault) × Q f × (◌≡◌ {A = Option BookFault} None (Some f))) → P

@@ -1,5 +1,5 @@
 -- Orders carried out at a desk.
-use Rattle.std.proofs.Common.{◌≡◌, ℕ, List, get_or, set, Some, None, Option, sym, ap, ◌∙◌, subst, arith}
+use Rattle.std.proofs.Common.{◌≡◌, ℕ, List, get_or, set, Some, None, Option, sym, refl, ap, ◌∙◌, subst, arith}
 use Rattle.std.proofs.lemmas.List.{length-map, set-get_or}
 use Rattle.std.specs.List.{slice_get}
 use Rattle.std.specs.Option.{option_map}
@@ -14,17 +14,18 @@ use Rattle.book.specs.declared.record.Standing.{Standing}
 use Rattle.book.specs.declared.record.State.{State}
 use Rattle.book.specs.Keyed.{put}
 use Rattle.book.specs.States.{event_of, turned, asking}
-use Rattle.book.specs.Book.{Records, Terms, Instruction, Situation, found, in_record, meaning, meanings}
+use Rattle.book.specs.Book.{Records, Terms, Instruction, Situation, found, held, in_record, instruction_of, meaning, meanings}
 use Rattle.book.specs.Orders.{Claimed, Ordered, asked, eventually, after}
 use Rattle.book.specs.Orders.Ordered.{lodge, cancel, report}
 use Rattle.book.specs.Questions.{Of, Stands, subject}
 use Rattle.book.specs.Storage.{Filed}
 use Rattle.book.specs.Moves.{Placing, Ends, Places}
 use Rattle.book.specs.Desk.{told, shown, record_of, Served}
-use Rattle.book.specs.Acting.{Acts}
-use Rattle.book.proofs.Leading.{served_here, served_on}
+use Rattle.book.specs.Acting.{Acts, Asks, Restates, restated}
+use Rattle.book.proofs.Leading.{served_here, served_on, served_still}
+use Rattle.book.proofs.Meant.{meant_set}
 use Rattle.book.proofs.Places.{count_full}
-use Rattle.book.proofs.Acts.{restated, yes_to, leads, restated_acted, ended_acted, gone, replaced_acted}
+use Rattle.book.proofs.Acts.{yes_to, leads, restated_acted, ended_acted, gone, replaced_acted}
 
 module _ {X Y : Type 0} (R : Register.Ghosts X) (T : Tally.Ghosts Y) (d : Desk X Y) where
   -- a new instruction gets an empty record
@@ -140,3 +141,49 @@ pub report_goes : (q : List ℕ) (process : Process) (code : StatusCode) (i : In
 report_goes q process code i y turns b e x =
     ap (λ (j : Option Instruction). put b q (eventually (event_of process code) j) x) e
     ∙ ap (λ (s : Option State). put b q (option_map (λ s. restated s i) s) x) turns
+
+-- a record that was lent for a change
+abbrev pub with_record : {X Y : Type 0} → Desk X Y → ℕ → Option Standing → Desk X Y
+with_record d n r = record d { records = record d.records { now = set d.records.now n r } }
+
+-- a cancellation is asked in a record, whether an instruction stands there or not
+pub asked_acts : {X Y : Type 0} (R : Register.Ghosts X) (T : Tally.Ghosts Y) (d : Desk X Y) (g : Group (T.scale d.tally.now)) (q : List ℕ) (c : Claimed) (number : Option ℕ) (n : ℕ) (r s : Option Standing) → number ≡ Some n → slice_get (meanings d.records.now) n ≡ Some (meaning r) → meaning s ≡ option_map asked (meaning r) → Acts R T d (cancel q c) number (with_record d n s)
+asked_acts R T d g q c number n None s is was e = missing_acts R T d q (cancel q c) number _ refl (ap (in_record (meanings d.records.now)) is ∙ ap held was) (served_still R T d _ refl refl refl)
+asked_acts R T d g q c number n (Some st) s is was e =
+    restated_acts R T d g q (cancel q c) number n refl is (instruction_of st) was (asking st.state) _ (asking_goes q c (instruction_of st) (asking st.state) refl)
+    (served_still R T d _ refl refl refl) refl refl (meant_set d.records.now n s ∙ ap (set (meanings d.records.now) n) e)
+
+pub asks_there : {X Y : Type 0} (d : Desk X Y) (number : Option ℕ) (n : ℕ) (r s : Option Standing) → number ≡ Some n → slice_get (meanings d.records.now) n ≡ Some (meaning r) → meaning s ≡ option_map asked (meaning r) → Asks d number (with_record d n s)
+asks_there d number n r s is was e = record {
+  register = refl;
+  tally = refl;
+  records = λ k i names stands.
+      let same : n ≡ k = cc in
+      let w : meaning r ≡ Some i = cc in
+      meant_set d.records.now n s
+      ∙ ap (set (meanings d.records.now) n) (e ∙ ap (option_map asked) w)
+      ∙ ap (λ (m : ℕ). set (meanings d.records.now) m (Some (asked i))) same;
+}
+
+-- nothing stands in the record named
+pub stands_nowhere : (rs : List (Option Instruction)) (number : Option ℕ) (n : ℕ) (i : Instruction) → in_record rs number ≡ None → number ≡ Some n → slice_get rs n ≡ Some (Some i) → ⊥
+stands_nowhere rs number n i nothing names stands =
+    let there : in_record rs number ≡ Some i = ap (in_record rs) names ∙ ap held stands in
+    let z : ◌≡◌ {A = ℕ} 0 1 = cc in omega arith
+
+pub asks_nowhere : {X Y : Type 0} (d : Desk X Y) (number : Option ℕ) → in_record (meanings d.records.now) number ≡ None → Asks d number d
+asks_nowhere d number nothing = record {
+  register = refl;
+  tally = refl;
+  records = λ n i names stands. absurd (stands_nowhere (meanings d.records.now) number n i nothing names stands);
+}
+
+-- an instruction goes into another state
+pub restates_there : {X Y : Type 0} (d : Desk X Y) (n : ℕ) (st s : Standing) (state : State) → slice_get (meanings d.records.now) n ≡ Some (Some (instruction_of st)) → instruction_of s ≡ restated state (instruction_of st) → Restates d n state (with_record d n (Some s))
+restates_there d n st s state was e = record {
+  register = refl;
+  tally = refl;
+  records = λ i stands.
+      let w : instruction_of st ≡ i = cc in
+      meant_set d.records.now n (Some s) ∙ ap (λ (j : Instruction). set (meanings d.records.now) n (Some j)) (e ∙ ap (restated state) w);
+}

@@ -1,5 +1,5 @@
 -- What records mean, at their places.
-use Rattle.std.proofs.Common.{◌≡◌, ℕ, zero, suc, ◌+◌, ◌<◌, ◌≤◌, [], ◌∷◌, length, get_or, set, count_by, cond, is_some, is_none, true, Some, None, Option, sym, refl, ap, ◌∙◌, arith}
+use Rattle.std.proofs.Common.{◌≡◌, ℕ, zero, suc, ◌+◌, ◌<◌, ◌≤◌, [], ◌∷◌, length, get_or, set, take, count_by, cond, is_some, is_none, true, Some, None, Option, sym, refl, ap, ◌∙◌, arith}
 use Rattle.std.specs.List.{slice_get, position, position_from}
 use Rattle.std.specs.Option.{option_map}
 use Rattle.std.proofs.lemmas.List.{map-set}
@@ -8,7 +8,8 @@ use Rattle.std.proofs.lemmas.List.Quantifiers.{position-Some}
 use Rattle.std.proofs.lemmas.Iterator.Adapters.{position_from-zero}
 use Rattle.std.proofs.lemmas.Option.{slice_get-get_or, slice_get-map, slice_get_past}
 use Rattle.book.specs.declared.record.Standing.{Standing}
-use Rattle.book.specs.Book.{Records, instructions, meaning, meanings}
+use Rattle.book.specs.Book.{Instruction, Records, held, instructions, meaning, meanings}
+use Rattle.book.proofs.Weights.{size_of}
 
 pub meant_at : (rs : Records) (n : ℕ) (d r : Option Standing) → n < length rs → get_or rs n d ≡ r → slice_get (meanings rs) n ≡ Some (meaning r)
 meant_at rs n d r h e = slice_get-map meaning rs n ∙ ap (option_map meaning) (slice_get-get_or rs n d h ∙ ap {B = Option (Option Standing)} Some e)
@@ -46,3 +47,25 @@ none_empty rs e = none_from rs 0 (sym (position_from-zero is_none rs) ∙ e)
     none_from (None ∷ rs) k e n h = let z : ◌≡◌ {A = ℕ} 0 1 = cc in omega arith
     none_from (Some s ∷ rs) k e zero h = let z : ◌≡◌ {A = ℕ} 0 1 = cc in omega arith
     none_from (Some s ∷ rs) k e (suc n) h = none_from rs (k + 1) e n h
+
+-- one more record counted
+pub count_take : (rs : Records) (n : ℕ) (o : Option Instruction) → slice_get (meanings rs) n ≡ Some o → length (instructions (meanings (take (suc n) rs))) ≡ length (instructions (meanings (take n rs))) + size_of o
+count_take [] n o e = let z : ◌≡◌ {A = ℕ} 0 1 = cc in absurd (omega arith)
+count_take (r ∷ rs) zero o e = let w : meaning r ≡ o = cc in first (meaning r) o w
+  where
+    first : (m o : Option Instruction) → m ≡ o → length (instructions (m ∷ [])) ≡ 0 + size_of o
+    first None None w = refl
+    first None (Some i) w = let z : ◌≡◌ {A = ℕ} 0 1 = cc in absurd (omega arith)
+    first (Some i) None w = let z : ◌≡◌ {A = ℕ} 0 1 = cc in absurd (omega arith)
+    first (Some i) (Some j) w = refl
+count_take (r ∷ rs) (suc n) o e = let h = count_take rs n o e in more (meaning r) h
+  where
+    more : (m : Option Instruction) → length (instructions (meanings (take (suc n) rs))) ≡ length (instructions (meanings (take n rs))) + size_of o → length (instructions (m ∷ meanings (take (suc n) rs))) ≡ length (instructions (m ∷ meanings (take n rs))) + size_of o
+    more None h = h
+    more (Some i) h = omega arith
+
+-- what is held is in the record
+pub held_some : (o : Option (Option Instruction)) (i : Instruction) → Some i ≡ held o → o ≡ Some (Some i)
+held_some None i e = let z : ◌≡◌ {A = ℕ} 0 1 = cc in absurd (omega arith)
+held_some (Some None) i e = let z : ◌≡◌ {A = ℕ} 0 1 = cc in absurd (omega arith)
+held_some (Some (Some j)) i e = cc

@@ -1,5 +1,5 @@
 -- Rights that are taken, looked for record by record.
-use Rattle.std.proofs.Common.{◌≡◌, ℕ, zero, suc, Bool, true, ◌||◌, List, [], ◌∷◌, Some, None, Option, refl, ap, ◌∙◌, inl, inr, arith}
+use Rattle.std.proofs.Common.{◌≡◌, ℕ, zero, suc, Bool, true, ◌||◌, List, [], ◌∷◌, drop, Some, None, Option, refl, ap, ◌∙◌, inl, inr, arith}
 use Rattle.std.specs.List.{slice_get, list_any}
 use Rattle.std.proofs.lemmas.Bool.{or_cases, or_left, or_right}
 use Rattle.message.specs.Instructions.{RightsText, same_rights}
@@ -11,6 +11,16 @@ use Rattle.book.proofs.Rights.{rights_decides}
 pub shared_meant : (rs : Records) (rights : RightsText) → shared_in (meanings rs) rights ≡ list_any (λ r. has_rights (meaning r) rights) rs
 shared_meant [] rights = refl
 shared_meant (r ∷ rs) rights = ap (λ (b : Bool). has_rights (meaning r) rights || b) (shared_meant rs rights)
+
+pub shared_cons : (o : Option Instruction) (rs : List (Option Instruction)) (rights : RightsText) → shared_in (o ∷ rs) rights ≡ (has_rights o rights || shared_in rs rights)
+shared_cons None rs rights = refl
+shared_cons (Some i) rs rights = refl
+
+-- one record further
+pub shared_drop : (rs : Records) (n : ℕ) (o : Option Instruction) (rights : RightsText) → slice_get (meanings rs) n ≡ Some o → shared_in (meanings (drop n rs)) rights ≡ (has_rights o rights || shared_in (meanings (drop (suc n) rs)) rights)
+shared_drop [] n o rights e = let z : ◌≡◌ {A = ℕ} 0 1 = cc in absurd (omega arith)
+shared_drop (r ∷ rs) zero o rights e = let w : meaning r ≡ o = cc in shared_cons (meaning r) (meanings rs) rights ∙ ap (λ (x : Option Instruction). has_rights x rights || shared_in (meanings rs) rights) w
+shared_drop (r ∷ rs) (suc n) o rights e = shared_drop rs n o rights e
 
 -- in words: some record holds an instruction with these rights
 pub shared_there : (rs : List (Option Instruction)) (rights : RightsText) → shared_in rs rights ≡ true → (n : ℕ) × (i : Instruction) × (slice_get rs n ≡ Some (Some i)) × (i.terms.rights ≡ rights)

@@ -1,18 +1,21 @@
 // Carrying out an order that no question refused.
 ghost use Rattle.std.specs.Prelude.{◌≡◌, ℕ, List, Some, None, Option as Maybe};
+ghost use Rattle.std.specs.List.{slice_get};
+ghost use Rattle.std.specs.Option.{option_map};
 ghost use Rattle.register.specs.Spelling.{spelling};
-ghost use Rattle.book.specs.Book.{terms_of};
-ghost use Rattle.book.specs.Orders.{Claimed, ordered};
+ghost use Rattle.book.specs.Book.{Instruction, instruction_of, meaning, meanings, terms_of};
+ghost use Rattle.book.specs.Orders.{Claimed, asked, ordered};
 ghost use Rattle.book.specs.Orders.Ordered.{lodge, cancel, report};
 ghost use Rattle.book.specs.Deeds.{deed, deed_of, event_deed};
-ghost use Rattle.book.specs.Acting.{Acts};
-ghost use Rattle.book.specs.States.{event_of};
+ghost use Rattle.book.specs.Acting.{Acts, Asks, Restates, restated};
+ghost use Rattle.book.specs.States.{event_of, turned};
+ghost use Rattle.book.specs.declared.record.State.{State as StateOf};
 ghost use Rattle.message.specs.declared.status.Process.{Process as ProcessOf};
 ghost use Rattle.message.specs.declared.status.StatusCode.{StatusCode as CodeOf};
 
 use crate::desk::Desk;
 use crate::order::Order;
-use crate::record::Lodging;
+use crate::record::{Lodging, Record, Standing, State};
 use crate::status::StatusEvent;
 use register::interface::Register;
 use register::reference::Reference;
@@ -59,6 +62,22 @@ pub fn taken_by(order: &Order) -> Taken
     }
 }
 
+// Puts an instruction into another state.
+fn restate(standing: &mut Standing, state: State)
+    ensures { instruction_of standing.new ≡ restated state (instruction_of standing.old) }
+{
+    standing.state = state;
+}
+
+// Asks the cancellation of the instruction in a record, if one stands there.
+fn ask_cancellation(kept: &mut Record)
+    ensures { meaning kept.new ≡ option_map asked (meaning kept.old) }
+{
+    if let Some(standing) = kept {
+        standing.state = standing.state.with_cancellation_asked();
+    }
+}
+
 impl<R: Register, T: Tally> Desk<'_, R, T> {
     fn act_lodging(&mut self, lodging: &Lodging)
         ensures { (number : Maybe ℕ) → Acts R.Register T.Tally self.old (lodge (terms_of lodging.now) None) number self.new }
@@ -80,7 +99,8 @@ impl<R: Register, T: Tally> Desk<'_, R, T> {
 
     // The cancellation is asked.
     fn act_cancellation(&mut self, number: Option<usize>)
-        ensures { (q : List ℕ) (c : Claimed) → Acts R.Register T.Tally self.old (cancel q c) number self.new }
+        ensures acts { (q : List ℕ) (c : Claimed) → Acts R.Register T.Tally self.old (cancel q c) number self.new }
+        ensures asks { Asks self.old number self.new }
     {
         let Some(n) = number else {
             return;
@@ -88,14 +108,13 @@ impl<R: Register, T: Tally> Desk<'_, R, T> {
         if n >= self.records.len() {
             return;
         }
-        if let Some(standing) = &mut self.records[n] {
-            standing.state = standing.state.with_cancellation_asked();
-        }
+        ask_cancellation(&mut self.records[n]);
     }
 
     // The state goes on, or the instruction ends.
     fn act_report(&mut self, number: Option<usize>, event: StatusEvent)
-        ensures { (q : List ℕ) (process : ProcessOf) (code : CodeOf) → event_of process code ≡ event → Acts R.Register T.Tally self.old (report q process code) number self.new }
+        ensures acts { (q : List ℕ) (process : ProcessOf) (code : CodeOf) → event_of process code ≡ event → Acts R.Register T.Tally self.old (report q process code) number self.new }
+        ensures turns { (n : ℕ) (i : Instruction) (state : StateOf) → number ≡ Some n → slice_get (meanings self.old.records.now) n ≡ Some (Some i) → turned i.state event ≡ Some state → Restates self.old n state self.new }
     {
         let Some(n) = number else {
             return;
@@ -105,7 +124,7 @@ impl<R: Register, T: Tally> Desk<'_, R, T> {
         }
         if let Some(standing) = &mut self.records[n] {
             match standing.state.after(event) {
-                Some(state) => standing.state = state,
+                Some(state) => restate(standing, state),
                 None => self.end(n),
             }
         }

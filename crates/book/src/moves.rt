@@ -8,9 +8,9 @@ ghost use Rattle.register.specs.declared.call.Answer.TheVariants.{Number};
 ghost use Rattle.register.specs.declared.call.Call.TheVariants.{Find};
 ghost use Rattle.tally.specs.Scale.{plus_all};
 ghost use Rattle.message.specs.Instructions.{rights_of};
-ghost use Rattle.book.specs.Book.{held, in_record, instruction_of, instructions, meanings, terms_of};
+ghost use Rattle.book.specs.Book.{held, in_record, instruction_of, instructions, meaning, meanings, terms_of};
 ghost use Rattle.book.specs.Moves.{Ends, Places};
-ghost use Rattle.book.specs.Verdicts.{shared_in};
+ghost use Rattle.book.specs.Verdicts.{has_rights, shared_in};
 
 use crate::desk::Desk;
 use crate::record::{Lodging, Record, Standing, State};
@@ -34,16 +34,23 @@ pub fn standing_in(records: &[Record], number: Option<usize>) -> Option<&Standin
     standing_at(records, number?)
 }
 
+// Does an instruction with the rights identifier stand in the record?
+fn has_rights(kept: &Record, rights: &Rights) -> bool
+    ensures { result ≡ has_rights (meaning kept.now) (rights_of rights.now) }
+{
+    kept.as_ref()
+        .is_some_and(|standing| standing.lodging.rights == *rights)
+}
+
 // Does an instruction with the rights identifier stand in some record?
 pub fn is_shared(records: &[Record], rights: &Rights) -> bool
     ensures { result ≡ shared_in (meanings records.now) (rights_of rights.now) }
 {
-    records.iter().any(|record| record
-        .as_ref()
-        .is_some_and(|standing| standing.lodging.rights == *rights))
+    records.iter().any(|record| has_rights(record, rights))
 }
 
 // How many instructions stand.
+#[tactic(auto, using(crate::proofs::Meant::count_meant))]
 pub fn count_standing(records: &[Record]) -> usize
     ensures { result ≡ length (instructions (meanings records.now)) }
 {

@@ -1,4 +1,3 @@
 pub mod Outcomes
 pub mod Takings
 pub mod Heard
-pub mod Examined

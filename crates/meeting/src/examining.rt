@@ -1,5 +1,5 @@
 // Examining a message by itself: is it the meeting's, does it say what its function asks for, are its votes good?
-ghost use Rattle.std.specs.Prelude.{◌≡◌, ◌&&◌};
+ghost use Rattle.std.specs.Prelude.{◌≡◌, ℕ, ◌&&◌, Some, None, MatchResult};
 ghost use Rattle.std.specs.Option.{option_map};
 ghost use Rattle.std.specs.Str.{bytes_eq};
 ghost use Rattle.register.specs.Spelling.{spelling};
@@ -8,8 +8,9 @@ ghost use Rattle.message.specs.Instructions.{given_votes, rights_of};
 ghost use Rattle.message.specs.Said.{said_by, said_instruction, said_status};
 ghost use Rattle.meeting.specs.Messages.{form as formed, purposed, purpose_of};
 ghost use Rattle.agenda.specs.Votes.{votes_of};
-ghost use Rattle.agenda.specs.Casting.{cast_votes};
+ghost use Rattle.agenda.specs.Casting.{bad_vote, cast_votes};
 ghost use Rattle.book.specs.Orders.{ordered};
+ghost use Rattle.book.specs.declared.faults.BookFault.TheVariants.{Vote as of_vote};
 ghost use Rattle.message.specs.Said.Said.{instructs, reports};
 ghost use Rattle.meeting.specs.Notices.{notice_meant};
 ghost use Rattle.meeting.specs.Examining.{meant_form, purpose_meant, Examines};
@@ -106,6 +107,13 @@ impl Notice {
         self.is_event(&instruction.event) && instruction.isin == self.isin
     }
 
+    // What the votes of an instruction cast; or the first that is not good.
+    fn cast_by(&self, instruction: &Instruction) -> Result<Votes, BookFault>
+        ensures { MatchResult result (λ v. (bad_vote self.now.agenda.questions (given_votes instruction.now.votes) instruction.now.votes.count ≡ None) × (votes_of v ≡ cast_votes (given_votes instruction.now.votes))) (λ f. (k : ℕ) × (bad_vote self.now.agenda.questions (given_votes instruction.now.votes) instruction.now.votes.count ≡ Some k) × (f ≡ of_vote k)) }
+    {
+        cast(&self.agenda, &instruction.votes).map_err(BookFault::Vote)
+    }
+
     // What an instruction orders; or why it is refused by itself.
     fn examine_instruction(&self, instruction: &Instruction) -> Result<Order, BookFault>
         ensures { Examines (notice_meant self.now) (instructs (said_instruction instruction.now)) result }
@@ -114,7 +122,7 @@ impl Notice {
             return Err(BookFault::Event);
         }
         let (rights, purpose) = form(instruction).ok_or(BookFault::Content)?;
-        let votes = cast(&self.agenda, &instruction.votes).map_err(BookFault::Vote)?;
+        let votes = self.cast_by(instruction)?;
         if let Some(question) = unbalanced(&self.agenda, instruction.holding, &votes) {
             return Err(BookFault::Sum(question));
         }

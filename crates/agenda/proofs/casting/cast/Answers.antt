@@ -16,7 +16,8 @@ returns-in_err-all_kept c =
     let p = err_from_is_err_and c.from_residual-in_err-all_kept.result c.from_residual-in_err-all_kept.ensures.1 in
     rw (p.1, p.2) (record { value = j.0; judged = j.1; only = j.2 })
 
-pub returns : goal.returns
-returns c =
-    let j = all_judged c.args.agenda.now.questions c.args.given.now _ _ c.in_ok-votes.ensures.0 c.in_ok-all_kept.ensures in
-    record { value = (j.0, c.in_ok-votes.ensures.1); judged = j.1; only = j.2 }
+pub returns-clause-judged : goal.returns-clause-judged
+returns-clause-judged c = (all_judged c.args.agenda.now.questions c.args.given.now _ _ c.in_ok-votes.ensures.0 c.in_ok-all_kept.ensures).1
+
+pub returns-clause-only : goal.returns-clause-only
+returns-clause-only c = (all_judged c.args.agenda.now.questions c.args.given.now _ _ c.in_ok-votes.ensures.0 c.in_ok-all_kept.ensures).2

@@ -11,7 +11,7 @@ pub returns-in-Replace : goal.returns-in-Replace
 returns-in-Replace g c = rw c.in-Replace.is (c.act_replacement.ensures (spelling c.in-Replace.field-1))
 
 pub returns-in-Cancel : goal.returns-in-Cancel
-returns-in-Cancel g c = rw c.in-Cancel.is (c.act_cancellation.ensures (spelling c.in-Cancel.field-0) (claimed c.in-Cancel.field-1))
+returns-in-Cancel g c = rw c.in-Cancel.is (c.act_cancellation.ensures.acts (spelling c.in-Cancel.field-0) (claimed c.in-Cancel.field-1))
 
 pub returns-in-Report : goal.returns-in-Report
-returns-in-Report g c = rw c.in-Report.is (c.act_report.ensures (spelling c.in-Report.field-0) c.in-Report.process c.in-Report.code (sym c.of.ensures))
+returns-in-Report g c = rw c.in-Report.is (c.act_report.ensures.acts (spelling c.in-Report.field-0) c.in-Report.process c.in-Report.code (sym c.of.ensures))
