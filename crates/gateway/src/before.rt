@@ -1,6 +1,6 @@
 // The lines before the opening of a meeting.
 use crate::command::{Command, Preparation, Setup};
-use crate::line::Line;
+use crate::line::{Line, Lines};
 use crate::mistake::{Mistake, Stop};
 use crate::parse::parse;
 use crate::refusal::Refusal;
@@ -28,11 +28,11 @@ pub struct Drafting<'a> {
 }
 
 // An opening: its line, what the meeting is opened on, and the lines behind it.
-#[derive(Clone, Copy)]
+#[derive(Drop)]
 pub struct Opening<'a> {
     pub line: Line<'a>,
     pub setup: Setup,
-    pub behind: &'a [Line<'a>],
+    pub behind: Lines<'a>,
 }
 
 impl<'a> Drafting<'a> {
@@ -96,16 +96,14 @@ impl<'a> Drafting<'a> {
     pub fn prepare(
         &mut self,
         rt: &(impl Files + Print + AllocGlobal),
-        lines: &'a [Line<'a>],
+        mut lines: Lines<'a>,
     ) -> Result<Option<Opening<'a>>, Stop<'a>> {
-        // Stays an index: the lines behind the opening are handed on, and a loop over `split_first` would ask for a measure.
-        for (i, line) in lines.iter().enumerate() {
+        for line in lines.by_ref().filter(|line| !line.is_passed_over()) {
             if let Some(setup) = line.or_stop(self.carry_out(rt, line.text))? {
-                let behind = &lines[i + 1..];
                 return Ok(Some(Opening {
-                    line: *line,
+                    line,
                     setup,
-                    behind,
+                    behind: lines,
                 }));
             }
         }

@@ -1,6 +1,6 @@
 // A day file carried out.
 use crate::before::Drafting;
-use crate::line::{Line, lines_of};
+use crate::line::Lines;
 use crate::mistake::{Mistake, Stop};
 use crate::sitting::meet;
 use std::io;
@@ -18,11 +18,7 @@ impl From<io::Error> for Stopped {
 
 // Carries out every line, up to the first in error.
 pub fn carry_out(rt: &(impl Files + Print + AllocGlobal), day: &str) -> Result<(), Stopped> {
-    let lines = match lines_of(rt.alloc(), day) {
-        Ok(lines) => lines,
-        Err(stop) => return report(rt, stop),
-    };
-    carry_out_lines(rt, &lines).or_else(|stop| report(rt, stop))
+    carry_out_lines(rt, Lines::of(day)).or_else(|stop| report(rt, stop))
 }
 
 // Prints what stopped the day.
@@ -33,7 +29,7 @@ fn report(rt: &impl Print, stop: Stop<'_>) -> Result<(), Stopped> {
 
 fn carry_out_lines<'a>(
     rt: &(impl Files + Print + AllocGlobal),
-    lines: &'a [Line<'a>],
+    lines: Lines<'a>,
 ) -> Result<(), Stop<'a>> {
     let mut drafting = Drafting::new();
     let Some(opening) = drafting.prepare(rt, lines)? else {

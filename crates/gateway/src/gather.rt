@@ -1,6 +1,6 @@
 // The lines behind the opening. They are gathered before any is carried out, for one list of calls conducts the meeting.
 use crate::command::{Command, Proceeding, View};
-use crate::line::Line;
+use crate::line::{Line, Lines};
 use crate::mistake::{Mistake, Stop};
 use crate::parse::parse;
 use crate::view::load;
@@ -52,14 +52,14 @@ pub struct Gathering<'a> {
 
 impl<'a> Gathering<'a> {
     // Gathers the lines behind an opening.
-    pub fn of(rt: &(impl Files + AllocGlobal), lines: &'a [Line<'a>]) -> Gathering<'a> {
+    pub fn of(rt: &(impl Files + AllocGlobal), lines: Lines<'a>) -> Gathering<'a> {
         let mut gathering = Gathering {
             steps: Vec::new(rt.alloc()),
             phase: Phase::Open,
             stop: None,
         };
-        for line in lines {
-            if let Err(mistake) = gathering.add(rt, *line) {
+        for line in lines.filter(|line| !line.is_passed_over()) {
+            if let Err(mistake) = gathering.add(rt, line) {
                 gathering.stop = Some(line.stop(mistake));
                 break;
             }

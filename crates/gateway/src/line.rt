@@ -1,6 +1,10 @@
 // The lines of a day file.
+ghost use Rattle.std.specs.Prelude.{length};
+ghost use Rattle.std.specs.Iterator.{at_most};
+ghost use Rattle.std.specs.Str.Iter.{lines_rest};
+
 use crate::mistake::{Mistake, Stop};
-use std::alloc::Global;
+use std::str;
 
 // A line, and its number from 1.
 #[derive(Clone, Copy)]
@@ -10,6 +14,11 @@ pub struct Line<'a> {
 }
 
 impl<'a> Line<'a> {
+    // Is it passed over? So where it is empty, and where it begins with a `#`.
+    pub fn is_passed_over(&self) -> bool {
+        self.text.is_empty() || self.text.starts_with('#')
+    }
+
     pub fn stop(self, mistake: Mistake<'a>) -> Stop<'a> {
         Stop {
             line: self.number,
@@ -27,20 +36,34 @@ impl<'a> Line<'a> {
     }
 }
 
-// The lines to carry out: not the empty ones, and not those that begin with a `#`.
-pub fn lines_of(heap: Global, day: &str) -> Result<Vec<Line<'_>>, Stop<'_>> {
-    let mut lines = Vec::new(heap);
-    for (i, text) in day.lines().enumerate() {
-        if text.is_empty() || text.starts_with('#') {
-            continue;
-        }
-        let line = Line {
-            number: i.saturating_add(1),
-            text,
-        };
-        if lines.push(line).is_err() {
-            return Err(line.stop(Mistake::NoMemory));
+// The lines of a day file that are left.
+#[derive(Drop)]
+pub struct Lines<'a> {
+    texts: str::Lines<'a>,
+    // The number of the line before them.
+    number: usize,
+}
+
+impl<'a> Lines<'a> {
+    pub fn of(day: &'a str) -> Lines<'a> {
+        Lines {
+            texts: day.lines(),
+            number: 0,
         }
     }
-    Ok(lines)
+}
+
+impl<'a> Iterator for Lines<'a> {
+    type Item = Line<'a>;
+
+    ghost remaining = { λ s. at_most (length (lines_rest s.texts)) };
+
+    fn next(&mut self) -> Option<Line<'a>> {
+        let text = self.texts.next()?;
+        self.number = self.number.saturating_add(1);
+        Some(Line {
+            number: self.number,
+            text,
+        })
+    }
 }

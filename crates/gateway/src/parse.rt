@@ -115,11 +115,12 @@ fn parse_fields(rest: &str) -> Option<Command<'_>> {
     Some(Command::Show(View::Fields, one_word(rest)?))
 }
 
+// Its numbers, and those of `rewrite`, may have a `+` before the digits.
 fn parse_read(rest: &str) -> Option<Command<'_>> {
     let (number, behind) = rest.split_once(' ')?;
-    let number = message_number(number)?;
+    let number = number.parse::<u16>().ok()?;
     let (file, entries) = match behind.split_once(' ') {
-        Some((file, entries)) => (file, size(entries)?),
+        Some((file, entries)) => (file, entries.parse::<usize>().ok()?),
         None => (behind, ENTRIES),
     };
     Some(Command::Show(View::Table(number, entries), one_word(file)?))
@@ -127,9 +128,10 @@ fn parse_read(rest: &str) -> Option<Command<'_>> {
 
 fn parse_rewrite(rest: &str) -> Option<Command<'_>> {
     let (number, behind) = rest.split_once(' ')?;
-    let number = message_number(number)?;
+    let number = number.parse::<u16>().ok()?;
     let (file, room) = behind.split_once(' ')?;
-    Some(Command::Show(View::Filing(number, size(room)?), one_word(file)?))
+    let room = room.parse::<usize>().ok()?;
+    Some(Command::Show(View::Filing(number, room), one_word(file)?))
 }
 
 // The one word that this is.

@@ -82,11 +82,14 @@ pub fn meet<'a>(
     notice: Notice<'a>,
     opening: Opening<'a>,
 ) -> Result<(), Stop<'a>> {
-    let minute = Minute::of(notice, opening.setup.fronts);
-    let gathering = Gathering::of(rt, opening.behind);
-    let line = opening.line;
-    let Ok(mut answers) = answers_to(rt.alloc(), draft, opening.setup, &gathering.steps, &minute)
-    else {
+    let Opening {
+        line,
+        setup,
+        behind,
+    } = opening;
+    let minute = Minute::of(notice, setup.fronts);
+    let gathering = Gathering::of(rt, behind);
+    let Ok(mut answers) = answers_to(rt.alloc(), draft, setup, &gathering.steps, &minute) else {
         return Err(line.stop(Mistake::NoMemory));
     };
     if println!(rt; "{}: open", line.text).is_err() {
